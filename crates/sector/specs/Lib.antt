@@ -1,0 +1,4 @@
+pub mod Crc
+pub mod Table
+pub mod Window
+pub mod Layout
