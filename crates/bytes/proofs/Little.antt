@@ -90,3 +90,17 @@ same-le16 m n hm hn e = sym (number-le16 m hm) ∙ ap number e ∙ number-le16 n
 
 pub same-le32 : (m n : ℕ) → m < 4294967296 → n < 4294967296 → le32 m ≡ le32 n → m ≡ n
 same-le32 m n hm hn e = sym (number-le32 m hm) ∙ ap number e ∙ number-le32 n hn
+
+same-low : (x y k : ℕ) → x ≡ y + k * 256 → y % 256 ≡ x % 256
+same-low x y k e = omega arith
+
+-- four bytes hold a number modulo 2^32
+pub le32-wraps : (m n : ℕ) → m ≡ n % 2 ^ 32 → le32 m ≡ le32 n
+le32-wraps m n e =
+    let q : ℕ = n / 4294967296 in
+    let whole : n ≡ m + q * 4294967296 = omega arith in
+    let a = same-low n m (q * 16777216) (omega arith) in
+    let b = same-low (n / 256) (m / 256) (q * 65536) (omega arith) in
+    let c = same-low (n / 65536) (m / 65536) (q * 256) (omega arith) in
+    let d = same-low (n / 16777216) (m / 16777216) q (omega arith) in
+    rw (a, b, c, d)

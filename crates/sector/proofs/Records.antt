@@ -14,7 +14,7 @@ use Rattle.std.specs.Options.{Cases as BySome}
 use Rattle.std.specs.Orderings.{When}
 use Rattle.std.specs.declared.option.Option.{Option}
 use Rattle.std.specs.declared.option.Option.the-variants.{Some, None}
-use Rattle.std.proofs.shelf.Lists.{take-at, drop-at, drop-all, length-drop, take-append-drop}
+use Rattle.std.proofs.shelf.Lists.{take-at, drop-at, drop-all, length-drop, take-append-drop, getD-append-left, getD-take}
 use Rattle.std.proofs.shelf.Ways.{eqb-tells}
 use Rattle.bytes.specs.Little.{Bytes, le16, le32}
 use Rattle.bytes.proofs.Little.{le16-of, le32-of, same-le16, same-le32}
@@ -56,6 +56,15 @@ check-put s t m l e et =
     et
     ∙ ap₂ (λ (x : ℕ) (y : List ℕ). take 508 s ++ (le32 x ++ y)) e (drop-all 512 s (omega arith))
     ∙ ap (λ (x : List ℕ). take 508 s ++ x) (append-nil (le32 (crc32 (take 508 s))))
+
+-- a sector of a known kind is sound once its check is written
+pub check-sound : (s t : List ℕ) → length s ≡ 512 → t ≡ sealed (take 508 s) → (1 ≤ getD s 0 0) × (getD s 0 0 ≤ 6) → Sound t
+check-sound s t l e k =
+    let l508 : length (take 508 s) ≡ 508 = length-take-le 508 s (omega arith) in
+    let first : getD t 0 0 ≡ getD s 0 0 =
+    ap (λ (x : List ℕ). getD x 0 0) e ∙ getD-append-left (take 508 s) (le32 (crc32 (take 508 s))) 0 0 (omega arith) ∙ getD-take 508 s 0 0 (omega arith) in
+    let same : take 508 t ≡ take 508 s = ap (take 508) e ∙ take-at (take 508 s) (le32 (crc32 (take 508 s))) 508 l508 in
+    record { low = rw first (k .0); high = rw first (k .1); checked = e ∙ ap sealed (sym same) }
 
 -- neighbouring parts are one part
 glue : (s : List ℕ) (a m n : ℕ) → take m (drop a s) ++ take n (drop (a + m) s) ≡ take (m + n) (drop a s)
@@ -181,6 +190,15 @@ record-told s g q hg eg f p hf e =
 first-byte : (f : Fields) (p : List ℕ) → getD (sectorBytes f p) 0 0 ≡ kindNumber (f .kind)
 unfolding fieldBytes
 first-byte f p = refl
+
+-- the numbers that were written begin with a kind's
+pub known-put : (f : Fields) (rest t : List ℕ) → take 508 t ≡ fieldBytes f ++ rest → (1 ≤ getD t 0 0) × (getD t 0 0 ≤ 6)
+unfolding fieldBytes
+known-put f rest t e =
+    let b : getD t 0 0 ≡ kindNumber (f .kind) = sym (getD-take 508 t 0 0 (omega arith)) ∙ ap (λ (x : List ℕ). getD x 0 0) e in
+    let low = kind-low (f .kind) in
+    let high = kind-high (f .kind) in
+    (omega arith, omega arith)
 
 -- the first byte is no kind's number
 pub no-kind : (s : List ℕ) → ((1 ≤ getD s 0 0) × (getD s 0 0 ≤ 6) → ⊥) → NoRecord s

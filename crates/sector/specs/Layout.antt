@@ -3,11 +3,14 @@ use mathlib.Core.Path.{_≡_}
 use mathlib.Core.List.{List, [], _∷_, _++_}
 use Prim.Native.Nat.{ℕ, _≤_, _<_}
 use lib.ListN.{length, take, drop, getD}
+use Rattle.std.specs.declared.option.Option.{Option}
+use Rattle.std.specs.declared.option.Option.the-variants.{Some, None}
 use Rattle.bytes.specs.Little.{le16, le32}
 use Rattle.sector.specs.Crc.{crc32}
 use Rattle.sector.specs.declared.layout.Kind.{Kind}
 use Rattle.sector.specs.declared.layout.Kind.the-variants.{Header, Begin, Block, Trailer, Withdrawal, Opening}
 use Rattle.sector.specs.declared.layout.Fields.{Fields}
+use Rattle.sector.specs.declared.layout.Record.{Record}
 
 -- the number that stands for a kind
 abbrev pub kindNumber : Kind → ℕ
@@ -57,3 +60,8 @@ pub record Sound (s : List ℕ) : Type 0 where
 -- a sector that is not sound, and that no record has
 abbrev pub NoRecord : List ℕ → Type 0
 NoRecord s = (Sound s → ⊥) × ((f : Fields) (p : List ℕ) → Fits f p → s ≡ sectorBytes f p → ⊥)
+
+-- the answer is the record with exactly these numbers and this payload
+abbrev pub Gives : Fields → List ℕ → Option Record → Type 0
+Gives f payload (Some w) = (w .fields ≡ f) × (w .payload .now ≡ payload)
+Gives f payload None = ⊥

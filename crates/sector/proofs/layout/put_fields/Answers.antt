@@ -4,8 +4,8 @@ use Prim.Native.Nat.{ℕ}
 use lib.ListN.{drop}
 use native.Mathlib.Omega.{arith}
 use Rattle.bytes.specs.Little.{le16, le32}
-use Rattle.sector.specs.Layout.{kindNumber, fieldBytes}
-use Rattle.sector.proofs.Records.{put-first, put-more, fields-put}
+use Rattle.sector.specs.Layout.{kindNumber, fieldBytes, payloadOf}
+use Rattle.sector.proofs.Records.{put-first, put-more, fields-put, known-put}
 use Rattle.sector.proofs.layout.put_fields.Needs as need
 
 pub returns : need.returns
@@ -27,4 +27,6 @@ returns c =
     let e12 = put-more s (c .put-u32-2 .last .sector) (c .put-u32-3 .last .sector) t8 (le32 (f .epoch)) 12 4 refl e8 (c .put-u32-3 .ensures) in
     let e16 = put-more s (c .put-u32-3 .last .sector) (c .put-u32-4 .last .sector) t12 (le32 (f .take)) 16 4 refl e12 (c .put-u32-4 .ensures) in
     let e20 = put-more s (c .put-u32-4 .last .sector) (c .put-u32-5 .last .sector) t16 (le32 (f .a)) 20 4 refl e16 (c .put-u32-5 .ensures) in
-    fields-put f s (c .put-u32-6 .last .sector) (put-more s (c .put-u32-5 .last .sector) (c .put-u32-6 .last .sector) t20 (le32 (f .b)) 24 4 refl e20 (c .put-u32-6 .ensures))
+    let body =
+    fields-put f s (c .put-u32-6 .last .sector) (put-more s (c .put-u32-5 .last .sector) (c .put-u32-6 .last .sector) t20 (le32 (f .b)) 24 4 refl e20 (c .put-u32-6 .ensures)) in
+    record { body = body; known = known-put f (payloadOf s) (c .put-u32-6 .last .sector) body }
