@@ -1,8 +1,5 @@
 // Tests of the crates below against values from outside: published ones, and ones that other programs computed.
 // There is no code here but the tests.
-#[cfg(test)]
 mod checks;
-#[cfg(test)]
 mod sectors;
-#[cfg(test)]
 mod waves;
