@@ -8,7 +8,7 @@ use lib.ListN.{length, take, drop, getD, length-append}
 use Rattle.std.proofs.shelf.Lists.{take-at, drop-at, take-append-drop}
 use Rattle.std.specs.Orderings.{Decides}
 use Rattle.bytes.proofs.Little.{number-le32}
-use Rattle.wave.specs.Sound.{headerBytes, sampleCount, Exported}
+use Rattle.wave.specs.Export.{headerBytes, sampleCount, Exported}
 
 header-length : (rate n : ℕ) → length (headerBytes rate n) ≡ 44
 unfolding headerBytes

@@ -5,7 +5,7 @@ use Prim.Native.Nat.{ℕ, _+_, _*_}
 use lib.Chars.{codes}
 use borrow.Rule.Slice.PartMut.{putMid}
 use Rattle.bytes.specs.Little.{le16, le32}
-use Rattle.wave.specs.Sound.{headerBytes}
+use Rattle.wave.specs.Export.{headerBytes}
 
 -- a header whose four numbers are still 0
 abbrev blank : List ℕ

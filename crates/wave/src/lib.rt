@@ -5,7 +5,7 @@ ghost use Prim.Native.Nat.{ℕ, _+_, _*_, _%_, _^_, _<_};
 ghost use Rattle.std.specs.declared.result.Result.the-variants.{Ok, Err};
 ghost use Rattle.wave.specs.declared.Refusal.the-variants.{NotWave};
 ghost use Rattle.wave.specs.Reading.{refusalNumber, Gives};
-ghost use Rattle.wave.specs.Sound.{headerBytes, sampleCount, Exported, sampleAt, duration, Peak};
+ghost use Rattle.wave.specs.Export.{headerBytes, sampleCount, Exported, sampleAt, duration, Peak};
 
 // The lowest rate that an export writes, in samples a second.
 pub const LOWEST_RATE: u32 = 8_000;

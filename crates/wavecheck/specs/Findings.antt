@@ -4,7 +4,7 @@ use mathlib.Core.List.{List}
 use Prim.Native.Nat.{ℕ}
 use Rattle.wave.specs.declared.Refusal.the-variants.{NotWave}
 use Rattle.wave.specs.Reading.{refusalNumber}
-use Rattle.wave.specs.Sound.{Exported, sampleCount, duration, Peak}
+use Rattle.wave.specs.Export.{Exported, sampleCount, duration, Peak}
 use Rattle.wavecheck.specs.declared.Finding.{Finding}
 use Rattle.wavecheck.specs.declared.Finding.the-variants.{Sound, Refused, Unreadable}
 

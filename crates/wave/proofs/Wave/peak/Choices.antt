@@ -2,7 +2,7 @@ use mathlib.Core.Path.{_≡_}
 use mathlib.Core.Logic.{_⊎_}
 use Prim.Native.Nat.{ℕ, _<_, _≤_}
 use lib.IntN.{natAbs}
-use Rattle.wave.specs.Sound.{sampleCount, sampleAt}
+use Rattle.wave.specs.Export.{sampleCount, sampleAt}
 use Rattle.wave.proofs.Wave.peak.Given as given
 
 -- the samples so far are not above the peak, and the peak is 0 or one of theirs

@@ -1,0 +1,3 @@
+// Tests of images and layers piled up: faults with their depth, power, cuts, sick sectors and unequal sizes.
+// Expected values follow from docs/DEVICE.md. There is no code here but the tests.
+mod cases;
