@@ -1,0 +1,4 @@
+pub mod Samples
+pub mod Stamps
+pub mod Packed
+pub mod Unpacks

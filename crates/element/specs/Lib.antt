@@ -1,0 +1,4 @@
+pub mod Kinds
+pub mod Sounds
+pub mod Marks
+pub mod Payload

@@ -1,0 +1,5 @@
+pub mod Contents
+pub mod Plains
+pub mod Waits
+pub mod Settles
+pub mod Chooses

@@ -1,0 +1,11 @@
+use mathlib.Core.Path.{_≡_}
+use Prim.Native.Nat.{_≤_}
+use lib.ListN.{length, take, getD}
+use Rattle.images.specs.Image.{waitingFor}
+use Rattle.images.proofs.queue.calls.copy.Given as given
+
+abbrev pub Inv-loop-write : given.InvT-loop-write
+Inv-loop-write l =
+    (l .number ≡ length (waitingFor (l .sector) (take (l .write-index) (l .writes))))
+    × (l .number ≤ l .write-index)
+    × (l .buffer ≡ getD (waitingFor (l .sector) (take (l .write-index) (l .writes))) (l .place) (l .entry .buffer))
