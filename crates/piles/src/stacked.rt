@@ -1,11 +1,11 @@
 // Layers over images and over one another.
 #[cfg(test)]
 mod tests {
-    use crate::tools::flush;
-    use crate::tools::last;
-    use crate::tools::power;
-    use crate::tools::read;
-    use crate::tools::write;
+    use crate::tools::calls::flush;
+    use crate::tools::calls::last;
+    use crate::tools::calls::power;
+    use crate::tools::calls::read;
+    use crate::tools::calls::write;
     use device::CuttableDevice;
     use device::Device;
     use images::PlainCuttable;
