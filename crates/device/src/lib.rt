@@ -3,7 +3,7 @@
 ghost use mathlib.Core.List.{List, map, _∷_};
 ghost use mathlib.Core.Path.{_≡_};
 ghost use Prim.Native.Nat.{ℕ};
-ghost use Rattle.device.specs.Calls.{Reads, Writes, Flushes};
+ghost use Rattle.device.specs.Calls.{Answer, Reads, Writes, Flushes};
 ghost use Rattle.device.specs.Cuts.{EachCut, cutBy};
 ghost use Rattle.device.specs.Meaning.{Meaning, Lawful};
 
@@ -25,6 +25,15 @@ pub trait Device {
     // what holds of every device
     ghost lawful: { (d : Self) → Lawful (meaning d) };
 
+    // exactly what a read did: the device before, the sector, the buffer before, the answer, the device after, the buffer after
+    ghost fetched: { Self → ℕ → List ℕ → Answer → Self → List ℕ → Type 0 };
+
+    // exactly what a write did: the device before, the sector, the content, the answer, the device after
+    ghost wrote: { Self → ℕ → List ℕ → Answer → Self → Type 0 };
+
+    // exactly what a flush did: the device before, the answer, the device after
+    ghost flushed: { Self → Answer → Self → Type 0 };
+
     // How many sectors there are.
     fn size(&self) -> u32
         ensures { λ r. ⌜ r ≡ meaning (now (self .entry)) .size ⌝ };
@@ -35,15 +44,18 @@ pub trait Device {
 
     // Puts the sector's newest content into the buffer.
     fn read(&mut self, sector: u32, buffer: &mut [u8; 512]) -> Result<(), Fault>
-        ensures { λ r. ⌜ Reads layer (meaning (now (self .entry))) sector (now (buffer .entry)) r (meaning (now (self .exit))) (now (buffer .exit)) ⌝ };
+        ensures meets { λ r. ⌜ Reads layer (meaning (now (self .entry))) sector (now (buffer .entry)) r (meaning (now (self .exit))) (now (buffer .exit)) ⌝ }
+        ensures exact { λ r. ⌜ fetched (now (self .entry)) sector (now (buffer .entry)) r (now (self .exit)) (now (buffer .exit)) ⌝ };
 
     // Makes the content the sector's newest.
     fn write(&mut self, sector: u32, content: &[u8; 512]) -> Result<(), Fault>
-        ensures { λ r. ⌜ Writes layer (meaning (now (self .entry))) sector (now (content .entry)) r (meaning (now (self .exit))) ⌝ };
+        ensures meets { λ r. ⌜ Writes layer (meaning (now (self .entry))) sector (now (content .entry)) r (meaning (now (self .exit))) ⌝ }
+        ensures exact { λ r. ⌜ wrote (now (self .entry)) sector (now (content .entry)) r (now (self .exit)) ⌝ };
 
     // Leaves each sector only its newest content.
     fn flush(&mut self) -> Result<(), Fault>
-        ensures { λ r. ⌜ Flushes (meaning (now (self .entry))) r (meaning (now (self .exit))) ⌝ };
+        ensures meets { λ r. ⌜ Flushes (meaning (now (self .entry))) r (meaning (now (self .exit))) ⌝ }
+        ensures exact { λ r. ⌜ flushed (now (self .entry)) r (now (self .exit)) ⌝ };
 }
 
 // A device whose power can be cut.

@@ -73,6 +73,12 @@ pub impl<'a> Device for PlainImage<'a> as PlainDevice {
 
     ghost lawful = { plainLawful };
 
+    ghost fetched = { PlainReads };
+
+    ghost wrote = { PlainWrites };
+
+    ghost flushed = { PlainFlushes };
+
     fn size(&self) -> u32
         ensures meets { λ r. ⌜ r ≡ plainMeaning (now (self .entry)) .size ⌝ }
         ensures exact { λ r. ⌜ r ≡ whole (now (now (self .entry) .bytes)) ⌝ }

@@ -59,6 +59,12 @@ pub impl<'a> Device for QueuedImage<'a> as QueuedDevice {
 
     ghost lawful = { queuedLawful };
 
+    ghost fetched = { QueuedReads };
+
+    ghost wrote = { QueuedWrites };
+
+    ghost flushed = { QueuedFlushes };
+
     fn size(&self) -> u32
         ensures meets { λ r. ⌜ r ≡ queuedMeaning (now (self .entry)) .size ⌝ }
         ensures exact { λ r. ⌜ r ≡ whole (now (now (self .entry) .bytes)) ⌝ }

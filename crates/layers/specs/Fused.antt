@@ -7,6 +7,7 @@ use lib.Dec.{ltb, eqb}
 use Rattle.std.specs.Results.{isOk}
 use Rattle.std.specs.declared.option.Option.{Option}
 use Rattle.std.specs.declared.option.Option.the-variants.{Some, None}
+use Rattle.std.specs.declared.result.Result.the-variants.{Err}
 use Rattle.device.specs.declared.fault.Cause.the-variants.{PowerLost}
 use Rattle.device.specs.declared.fault.Layer.the-variants.{Fuse as FuseKind}
 use Rattle.device.specs.declared.fault.Fault.{Fault}
@@ -97,3 +98,24 @@ FuseWrites blown layer m s b r n = ByFault (fuseStands blown (m .size) s) (λ f.
 -- a flush of the device below is made unless the fuse is blown
 abbrev pub FuseFlushes : Bool → Meaning → Answer → Meaning → Type 0
 FuseFlushes blown m r n = ByFault (blownStands blown) (λ f. Refused f m r n) (PassedFlush m r n)
+
+-- exactly what a fuse's read did: refused by the fuse itself, or else read below, its answer raised and nothing counted
+abbrev pub FuseFetched : {D : Type 0} → (D → Meaning) → (D → ℕ → List ℕ → Answer → D → List ℕ → Type 0) → Fuse D → ℕ → List ℕ → Answer → Fuse D → List ℕ → Type 0
+FuseFetched means Fetched f s b r f′ b′ =
+    ByFault (fuseStands (f .counter .blown) (means (f .inner) .size) s)
+    (λ e. (r ≡ Err e) × (f′ ≡ f) × (b′ ≡ b))
+    ((q : Answer) × Fetched (f .inner) s b q (f′ .inner) b′ × (r ≡ raisedAnswer q) × (f′ .counter ≡ f .counter))
+
+-- exactly what a fuse's write did: refused by the fuse itself, or else written below, counted if accepted, and its answer raised
+abbrev pub FuseWrote : {D : Type 0} → (D → Meaning) → (D → ℕ → List ℕ → Answer → D → Type 0) → Fuse D → ℕ → List ℕ → Answer → Fuse D → Type 0
+FuseWrote means Wrote f s b r f′ =
+    ByFault (fuseStands (f .counter .blown) (means (f .inner) .size) s)
+    (λ e. (r ≡ Err e) × (f′ ≡ f))
+    ((q : Answer) × Wrote (f .inner) s b q (f′ .inner) × (r ≡ raisedAnswer q) × Counts r (f .counter) (f′ .counter))
+
+-- exactly what a fuse's flush did
+abbrev pub FuseFlushed : {D : Type 0} → (D → Answer → D → Type 0) → Fuse D → Answer → Fuse D → Type 0
+FuseFlushed Flushed f r f′ =
+    ByFault (blownStands (f .counter .blown))
+    (λ e. (r ≡ Err e) × (f′ ≡ f))
+    ((q : Answer) × Flushed (f .inner) q (f′ .inner) × (r ≡ raisedAnswer q) × Counts r (f .counter) (f′ .counter))

@@ -16,7 +16,7 @@ use Rattle.device.specs.Calls.{Answer, ByAnswer, ByFault, Accepted, Failed, ans
 use Rattle.layers.specs.declared.mirror.Mirror.{Mirror}
 use Rattle.layers.specs.declared.mirror.Outcome.{Outcome}
 use Rattle.layers.specs.declared.mirror.Outcome.the-variants.{Fine, Sick, PowerLost}
-use Rattle.layers.specs.Mirrored.{bothPower, mirrored, mirrorLayer}
+use Rattle.layers.specs.Mirrored.{bothPower, mirrored, mirrorLayer, mirrorMeaning}
 
 -- P where the call was fine, Q of the sick sector's fault, R of the fault of power that went off in the call
 abbrev pub ByOutcome : Outcome → Type 0 → (Fault → Type 0) → (Fault → Type 0) → Type 0
@@ -123,3 +123,55 @@ EachFlushed r a b a′ b′ =
 -- a relation of the sides, said of the mirrors that hold them
 abbrev pub OnSides : {D E : Type 0} → (D → Meaning) → (E → Meaning) → Relation → Mirror D E → Mirror D E → Type 0
 OnSides d e R m n = R (d (m .first)) (e (m .second)) (d (n .first)) (e (n .second))
+
+-- the answer that an outcome stands for, where the side was asked
+abbrev pub outcomeAnswer : Outcome → Answer
+outcomeAnswer Fine = Ok tt
+outcomeAnswer (Sick f) = Err f
+outcomeAnswer (PowerLost f) = Err f
+
+-- exactly what a read did to two sides that were ready: the first was asked, and the second where the first is sick
+abbrev pub SidesFetched : {D E : Type 0} → (D → ℕ → List ℕ → Answer → D → List ℕ → Type 0) → (E → ℕ → List ℕ → Answer → E → List ℕ → Type 0)
+    → ℕ → List ℕ → List ℕ → Outcome → Outcome → Mirror D E → Mirror D E → Type 0
+SidesFetched FetchedD FetchedE s b b′ o p m n =
+    ByOutcome o
+    (FetchedD (m .first) s b (Ok tt) (n .first) b′ × (p ≡ Fine) × (n .second ≡ m .second))
+    (λ f. FetchedD (m .first) s b (Err f) (n .first) b × FetchedE (m .second) s b (outcomeAnswer p) (n .second) b′)
+    (λ f. FetchedD (m .first) s b (Err f) (n .first) b′ × (p ≡ Fine) × (n .second ≡ m .second))
+
+-- exactly what a mirror's read did to two sides that were ready: their answers are joined
+abbrev pub EitherFetched : {D E : Type 0} → (D → Meaning) → (E → Meaning) → (D → ℕ → List ℕ → Answer → D → List ℕ → Type 0) → (E → ℕ → List ℕ → Answer → E → List ℕ → Type 0)
+    → ℕ → List ℕ → List ℕ → Answer → Mirror D E → Mirror D E → Type 0
+EitherFetched d e FetchedD FetchedE s b b′ r m n =
+    (o : Outcome) × (p : Outcome) × SidesFetched FetchedD FetchedE s b b′ o p m n
+    × (r ≡ joined o p (bothPower (d (n .first) .power) (e (n .second) .power)))
+
+-- exactly what a mirror's read did: refused by the mirror itself, or else its sides were read
+abbrev pub MirrorFetched : {D E : Type 0} → (D → Meaning) → (E → Meaning) → (D → ℕ → List ℕ → Answer → D → List ℕ → Type 0) → (E → ℕ → List ℕ → Answer → E → List ℕ → Type 0)
+    → Mirror D E → ℕ → List ℕ → Answer → Mirror D E → List ℕ → Type 0
+MirrorFetched d e FetchedD FetchedE m s b r n b′ =
+    ByFault (mirrorStands (mirrorMeaning d e m) s) (λ f. (r ≡ Err f) × (n ≡ m) × (b′ ≡ b)) (EitherFetched d e FetchedD FetchedE s b b′ r m n)
+
+-- exactly what a mirror's write did to two sides that were ready: each was written, and their answers are joined
+abbrev pub BothWrote : {D E : Type 0} → (D → Meaning) → (E → Meaning) → (D → ℕ → List ℕ → Answer → D → Type 0) → (E → ℕ → List ℕ → Answer → E → Type 0)
+    → ℕ → List ℕ → Answer → Mirror D E → Mirror D E → Type 0
+BothWrote d e WroteD WroteE s w r m n =
+    (o : Outcome) × (p : Outcome) × WroteD (m .first) s w (outcomeAnswer o) (n .first) × WroteE (m .second) s w (outcomeAnswer p) (n .second)
+    × (r ≡ joined o p (bothPower (d (n .first) .power) (e (n .second) .power)))
+
+-- exactly what a mirror's write did: refused by the mirror itself, or else both sides were written
+abbrev pub MirrorWrote : {D E : Type 0} → (D → Meaning) → (E → Meaning) → (D → ℕ → List ℕ → Answer → D → Type 0) → (E → ℕ → List ℕ → Answer → E → Type 0)
+    → Mirror D E → ℕ → List ℕ → Answer → Mirror D E → Type 0
+MirrorWrote d e WroteD WroteE m s w r n =
+    ByFault (mirrorStands (mirrorMeaning d e m) s) (λ f. (r ≡ Err f) × (n ≡ m)) (BothWrote d e WroteD WroteE s w r m n)
+
+-- exactly what a mirror's flush did to two sides with power: each was flushed, and their answers are joined
+abbrev pub BothFlushed : {D E : Type 0} → (D → Meaning) → (E → Meaning) → (D → Answer → D → Type 0) → (E → Answer → E → Type 0) → Answer → Mirror D E → Mirror D E → Type 0
+BothFlushed d e FlushedD FlushedE r m n =
+    (o : Outcome) × (p : Outcome) × FlushedD (m .first) (outcomeAnswer o) (n .first) × FlushedE (m .second) (outcomeAnswer p) (n .second)
+    × (r ≡ joined o p (bothPower (d (n .first) .power) (e (n .second) .power)))
+
+-- exactly what a mirror's flush did: refused for want of power, or else both sides were flushed
+abbrev pub MirrorFlushed : {D E : Type 0} → (D → Meaning) → (E → Meaning) → (D → Answer → D → Type 0) → (E → Answer → E → Type 0) → Mirror D E → Answer → Mirror D E → Type 0
+MirrorFlushed d e FlushedD FlushedE m r n =
+    ByFault (powerFault (mirrorMeaning d e m .power)) (λ f. (r ≡ Err f) × (n ≡ m)) (BothFlushed d e FlushedD FlushedE r m n)

@@ -4,7 +4,7 @@ ghost use mathlib.Core.Bool.{false};
 ghost use mathlib.Core.List.{_∷_, map};
 ghost use Rattle.device.specs.Calls.{Reads, Writes, Flushes, raisedAnswer};
 ghost use Rattle.device.specs.Cuts.{EachCut, cutBy};
-ghost use Rattle.layers.specs.Fused.{unset, setTo, counted, BlowsInTime, Counts, blownFault, fuseLayer, fusedPower, fuseMeaning, FuseReads, FuseWrites, FuseFlushes};
+ghost use Rattle.layers.specs.Fused.{unset, setTo, counted, BlowsInTime, Counts, blownFault, fuseLayer, fusedPower, fuseMeaning, FuseReads, FuseWrites, FuseFlushes, FuseFetched, FuseWrote, FuseFlushed};
 ghost use Rattle.layers.specs.FusedLawful.{fused-lawful};
 ghost use Rattle.layers.specs.WholeCuts.{underFuse};
 use device::Cause;
@@ -127,6 +127,12 @@ pub impl<D: Device> Device for Fuse<D> as FuseDevice {
 
     ghost lawful = { λ f. fused-lawful (f .counter .blown) (D·Device .lawful (f .inner)) };
 
+    ghost fetched = { FuseFetched (D·Device .meaning) (D·Device .fetched) };
+
+    ghost wrote = { FuseWrote (D·Device .meaning) (D·Device .wrote) };
+
+    ghost flushed = { FuseFlushed (D·Device .flushed) };
+
     fn size(&self) -> u32
         ensures { λ r. ⌜ r ≡ D·Device .meaning (now (self .entry) .inner) .size ⌝ }
     {
@@ -146,6 +152,7 @@ pub impl<D: Device> Device for Fuse<D> as FuseDevice {
         ensures meets { λ r. ⌜ Reads fuseLayer (fuseMeaning (D·Device .meaning) (now (self .entry))) sector (now (buffer .entry)) r (fuseMeaning (D·Device .meaning) (now (self .exit))) (now (buffer .exit)) ⌝ }
         ensures counts { λ _. ⌜ now (self .exit) .counter ≡ now (self .entry) .counter ⌝ }
         ensures below { λ r. ⌜ FuseReads (now (self .entry) .counter .blown) (D·Device .layer) (D·Device .meaning (now (self .entry) .inner)) sector (now (buffer .entry)) r (D·Device .meaning (now (self .exit) .inner)) (now (buffer .exit)) ⌝ }
+        ensures exact { λ r. ⌜ FuseFetched (D·Device .meaning) (D·Device .fetched) (now (self .entry)) sector (now (buffer .entry)) r (now (self .exit)) (now (buffer .exit)) ⌝ }
     {
         if sector >= self.size() {
             return Err(Fault::out_of_range(Layer::Fuse.number(), sector));
@@ -160,6 +167,7 @@ pub impl<D: Device> Device for Fuse<D> as FuseDevice {
         ensures meets { λ r. ⌜ Writes fuseLayer (fuseMeaning (D·Device .meaning) (now (self .entry))) sector (now (content .entry)) r (fuseMeaning (D·Device .meaning) (now (self .exit))) ⌝ }
         ensures counts { λ r. ⌜ Counts r (now (self .entry) .counter) (now (self .exit) .counter) ⌝ }
         ensures below { λ r. ⌜ FuseWrites (now (self .entry) .counter .blown) (D·Device .layer) (D·Device .meaning (now (self .entry) .inner)) sector (now (content .entry)) r (D·Device .meaning (now (self .exit) .inner)) ⌝ }
+        ensures exact { λ r. ⌜ FuseWrote (D·Device .meaning) (D·Device .wrote) (now (self .entry)) sector (now (content .entry)) r (now (self .exit)) ⌝ }
     {
         if sector >= self.size() {
             return Err(Fault::out_of_range(Layer::Fuse.number(), sector));
@@ -175,6 +183,7 @@ pub impl<D: Device> Device for Fuse<D> as FuseDevice {
         ensures meets { λ r. ⌜ Flushes (fuseMeaning (D·Device .meaning) (now (self .entry))) r (fuseMeaning (D·Device .meaning) (now (self .exit))) ⌝ }
         ensures counts { λ r. ⌜ Counts r (now (self .entry) .counter) (now (self .exit) .counter) ⌝ }
         ensures below { λ r. ⌜ FuseFlushes (now (self .entry) .counter .blown) (D·Device .meaning (now (self .entry) .inner)) r (D·Device .meaning (now (self .exit) .inner)) ⌝ }
+        ensures exact { λ r. ⌜ FuseFlushed (D·Device .flushed) (now (self .entry)) r (now (self .exit)) ⌝ }
     {
         if self.counter.blown {
             return Err(blown_fault());

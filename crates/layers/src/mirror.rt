@@ -7,7 +7,7 @@ ghost use Rattle.device.specs.Calls.{Reads, Writes, Flushes, answerOf, powerFau
 ghost use Rattle.device.specs.Cuts.{EachCut, cutBy};
 ghost use Rattle.layers.specs.Mirrored.{bothPower, mirrorLayer, mirrorMeaning};
 ghost use Rattle.layers.specs.MirroredLawful.{mirrored-lawful};
-ghost use Rattle.layers.specs.Sides.{joined, OnSides, Ready, SideRead, SideWrote, SideFlushed, SidesRead, SidesWrote, SidesFlushed, Joined, MirrorReads, MirrorWrites, MirrorFlushes, EachWrote, EachFlushed};
+ghost use Rattle.layers.specs.Sides.{joined, OnSides, Ready, SideRead, SideWrote, SideFlushed, SidesRead, SidesWrote, SidesFlushed, Joined, MirrorReads, MirrorWrites, MirrorFlushes, EachWrote, EachFlushed, outcomeAnswer, SidesFetched, EitherFetched, MirrorFetched, BothWrote, MirrorWrote, BothFlushed, MirrorFlushed};
 ghost use Rattle.layers.specs.WholeCuts.{WholeCut, mirrorImages, underMirror};
 use device::CuttableDevice;
 use device::Device;
@@ -77,7 +77,8 @@ fn both_power(first: Power, second: Power) -> Power
 // Reads one side.
 fn read_side<D: Device>(side: &mut D, sector: u32, buffer: &mut [u8; 512]) -> Outcome
     requires { ⌜ Ready (D·Device .meaning (now side)) sector ⌝ }
-    ensures { λ r. ⌜ SideRead (D·Device .meaning (now (side .entry))) sector (now (buffer .entry)) r (D·Device .meaning (now (side .exit))) (now (buffer .exit)) ⌝ }
+    ensures meets { λ r. ⌜ SideRead (D·Device .meaning (now (side .entry))) sector (now (buffer .entry)) r (D·Device .meaning (now (side .exit))) (now (buffer .exit)) ⌝ }
+    ensures exact { λ r. ⌜ D·Device .fetched (now (side .entry)) sector (now (buffer .entry)) (outcomeAnswer r) (now (side .exit)) (now (buffer .exit)) ⌝ }
 {
     match side.read(sector, buffer) {
         Ok(()) => Outcome::Fine,
@@ -91,7 +92,8 @@ fn read_side<D: Device>(side: &mut D, sector: u32, buffer: &mut [u8; 512]) -> Ou
 // Writes to one side.
 fn write_side<D: Device>(side: &mut D, sector: u32, content: &[u8; 512]) -> Outcome
     requires { ⌜ Ready (D·Device .meaning (now side)) sector ⌝ }
-    ensures { λ r. ⌜ SideWrote (D·Device .meaning (now (side .entry))) sector (now (content .entry)) r (D·Device .meaning (now (side .exit))) ⌝ }
+    ensures meets { λ r. ⌜ SideWrote (D·Device .meaning (now (side .entry))) sector (now (content .entry)) r (D·Device .meaning (now (side .exit))) ⌝ }
+    ensures exact { λ r. ⌜ D·Device .wrote (now (side .entry)) sector (now (content .entry)) (outcomeAnswer r) (now (side .exit)) ⌝ }
 {
     match side.write(sector, content) {
         Ok(()) => Outcome::Fine,
@@ -105,7 +107,8 @@ fn write_side<D: Device>(side: &mut D, sector: u32, content: &[u8; 512]) -> Outc
 // Flushes one side.
 fn flush_side<D: Device>(side: &mut D) -> Outcome
     requires { ⌜ D·Device .meaning (now side) .power ≡ On ⌝ }
-    ensures { λ r. ⌜ SideFlushed (D·Device .meaning (now (side .entry))) r (D·Device .meaning (now (side .exit))) ⌝ }
+    ensures meets { λ r. ⌜ SideFlushed (D·Device .meaning (now (side .entry))) r (D·Device .meaning (now (side .exit))) ⌝ }
+    ensures exact { λ r. ⌜ D·Device .flushed (now (side .entry)) (outcomeAnswer r) (now (side .exit)) ⌝ }
 {
     match side.flush() {
         Ok(()) => Outcome::Fine,
@@ -142,7 +145,8 @@ impl<D: Device, E: Device> Mirror<D, E> {
     fn read_sides(&mut self, sector: u32, buffer: &mut [u8; 512]) -> Sides
         requires first { ⌜ Ready (D·Device .meaning (now self .first)) sector ⌝ }
         requires second { ⌜ Ready (E·Device .meaning (now self .second)) sector ⌝ }
-        ensures { λ r. ⌜ OnSides (D·Device .meaning) (E·Device .meaning) (SidesRead sector (now (buffer .entry)) (now (buffer .exit)) (r .first) (r .second)) (now (self .entry)) (now (self .exit)) ⌝ }
+        ensures meets { λ r. ⌜ OnSides (D·Device .meaning) (E·Device .meaning) (SidesRead sector (now (buffer .entry)) (now (buffer .exit)) (r .first) (r .second)) (now (self .entry)) (now (self .exit)) ⌝ }
+        ensures exact { λ r. ⌜ SidesFetched (D·Device .fetched) (E·Device .fetched) sector (now (buffer .entry)) (now (buffer .exit)) (r .first) (r .second) (now (self .entry)) (now (self .exit)) ⌝ }
     {
         match read_side(&mut self.first, sector, buffer) {
             Outcome::Fine => Sides {
@@ -164,7 +168,9 @@ impl<D: Device, E: Device> Mirror<D, E> {
     fn write_sides(&mut self, sector: u32, content: &[u8; 512]) -> Sides
         requires first { ⌜ Ready (D·Device .meaning (now self .first)) sector ⌝ }
         requires second { ⌜ Ready (E·Device .meaning (now self .second)) sector ⌝ }
-        ensures { λ r. ⌜ OnSides (D·Device .meaning) (E·Device .meaning) (SidesWrote sector (now (content .entry)) (r .first) (r .second)) (now (self .entry)) (now (self .exit)) ⌝ }
+        ensures meets { λ r. ⌜ OnSides (D·Device .meaning) (E·Device .meaning) (SidesWrote sector (now (content .entry)) (r .first) (r .second)) (now (self .entry)) (now (self .exit)) ⌝ }
+        ensures exact_first { λ r. ⌜ D·Device .wrote (now (self .entry) .first) sector (now (content .entry)) (outcomeAnswer (r .first)) (now (self .exit) .first) ⌝ }
+        ensures exact_second { λ r. ⌜ E·Device .wrote (now (self .entry) .second) sector (now (content .entry)) (outcomeAnswer (r .second)) (now (self .exit) .second) ⌝ }
     {
         let first = write_side(&mut self.first, sector, content);
         let second = write_side(&mut self.second, sector, content);
@@ -175,7 +181,9 @@ impl<D: Device, E: Device> Mirror<D, E> {
     fn flush_sides(&mut self) -> Sides
         requires first { ⌜ D·Device .meaning (now self .first) .power ≡ On ⌝ }
         requires second { ⌜ E·Device .meaning (now self .second) .power ≡ On ⌝ }
-        ensures { λ r. ⌜ OnSides (D·Device .meaning) (E·Device .meaning) (SidesFlushed (r .first) (r .second)) (now (self .entry)) (now (self .exit)) ⌝ }
+        ensures meets { λ r. ⌜ OnSides (D·Device .meaning) (E·Device .meaning) (SidesFlushed (r .first) (r .second)) (now (self .entry)) (now (self .exit)) ⌝ }
+        ensures exact_first { λ r. ⌜ D·Device .flushed (now (self .entry) .first) (outcomeAnswer (r .first)) (now (self .exit) .first) ⌝ }
+        ensures exact_second { λ r. ⌜ E·Device .flushed (now (self .entry) .second) (outcomeAnswer (r .second)) (now (self .exit) .second) ⌝ }
     {
         let first = flush_side(&mut self.first);
         let second = flush_side(&mut self.second);
@@ -191,6 +199,7 @@ impl<D: Device, E: Device> Mirror<D, E> {
         requires second { ⌜ Ready (E·Device .meaning (now self .second)) sector ⌝ }
         ensures meets { λ r. ⌜ Reads mirrorLayer (mirrorMeaning (D·Device .meaning) (E·Device .meaning) (now (self .entry))) sector (now (buffer .entry)) r (mirrorMeaning (D·Device .meaning) (E·Device .meaning) (now (self .exit))) (now (buffer .exit)) ⌝ }
         ensures sides { λ r. ⌜ OnSides (D·Device .meaning) (E·Device .meaning) (Joined (SidesRead sector (now (buffer .entry)) (now (buffer .exit))) r) (now (self .entry)) (now (self .exit)) ⌝ }
+        ensures exact { λ r. ⌜ EitherFetched (D·Device .meaning) (E·Device .meaning) (D·Device .fetched) (E·Device .fetched) sector (now (buffer .entry)) (now (buffer .exit)) r (now (self .entry)) (now (self .exit)) ⌝ }
     {
         let sides = self.read_sides(sector, buffer);
         sides.answer(self.power())
@@ -203,6 +212,7 @@ impl<D: Device, E: Device> Mirror<D, E> {
         ensures meets { λ r. ⌜ Writes mirrorLayer (mirrorMeaning (D·Device .meaning) (E·Device .meaning) (now (self .entry))) sector (now (content .entry)) r (mirrorMeaning (D·Device .meaning) (E·Device .meaning) (now (self .exit))) ⌝ }
         ensures lists { λ r. ⌜ OnSides (D·Device .meaning) (E·Device .meaning) (EachWrote sector (now (content .entry)) r) (now (self .entry)) (now (self .exit)) ⌝ }
         ensures sides { λ r. ⌜ OnSides (D·Device .meaning) (E·Device .meaning) (Joined (SidesWrote sector (now (content .entry))) r) (now (self .entry)) (now (self .exit)) ⌝ }
+        ensures exact { λ r. ⌜ BothWrote (D·Device .meaning) (E·Device .meaning) (D·Device .wrote) (E·Device .wrote) sector (now (content .entry)) r (now (self .entry)) (now (self .exit)) ⌝ }
     {
         let sides = self.write_sides(sector, content);
         sides.answer(self.power())
@@ -215,6 +225,7 @@ impl<D: Device, E: Device> Mirror<D, E> {
         ensures meets { λ r. ⌜ Flushes (mirrorMeaning (D·Device .meaning) (E·Device .meaning) (now (self .entry))) r (mirrorMeaning (D·Device .meaning) (E·Device .meaning) (now (self .exit))) ⌝ }
         ensures lists { λ r. ⌜ OnSides (D·Device .meaning) (E·Device .meaning) (EachFlushed r) (now (self .entry)) (now (self .exit)) ⌝ }
         ensures sides { λ r. ⌜ OnSides (D·Device .meaning) (E·Device .meaning) (Joined SidesFlushed r) (now (self .entry)) (now (self .exit)) ⌝ }
+        ensures exact { λ r. ⌜ BothFlushed (D·Device .meaning) (E·Device .meaning) (D·Device .flushed) (E·Device .flushed) r (now (self .entry)) (now (self .exit)) ⌝ }
     {
         let sides = self.flush_sides();
         sides.answer(self.power())
@@ -248,6 +259,12 @@ pub impl<D: Device, E: Device> Device for Mirror<D, E> as MirrorDevice {
 
     ghost lawful = { λ m. mirrored-lawful (D·Device .meaning (m .first)) (E·Device .meaning (m .second)) (D·Device .lawful (m .first)) (E·Device .lawful (m .second)) };
 
+    ghost fetched = { MirrorFetched (D·Device .meaning) (E·Device .meaning) (D·Device .fetched) (E·Device .fetched) };
+
+    ghost wrote = { MirrorWrote (D·Device .meaning) (E·Device .meaning) (D·Device .wrote) (E·Device .wrote) };
+
+    ghost flushed = { MirrorFlushed (D·Device .meaning) (E·Device .meaning) (D·Device .flushed) (E·Device .flushed) };
+
     fn size(&self) -> u32
         ensures { λ r. ⌜ r ≡ min (D·Device .meaning (now (self .entry) .first) .size) (E·Device .meaning (now (self .entry) .second) .size) ⌝ }
     {
@@ -263,6 +280,7 @@ pub impl<D: Device, E: Device> Device for Mirror<D, E> as MirrorDevice {
     fn read(&mut self, sector: u32, buffer: &mut [u8; 512]) -> Result<(), Fault>
         ensures meets { λ r. ⌜ Reads mirrorLayer (mirrorMeaning (D·Device .meaning) (E·Device .meaning) (now (self .entry))) sector (now (buffer .entry)) r (mirrorMeaning (D·Device .meaning) (E·Device .meaning) (now (self .exit))) (now (buffer .exit)) ⌝ }
         ensures sides { λ r. ⌜ OnSides (D·Device .meaning) (E·Device .meaning) (MirrorReads sector (now (buffer .entry)) (now (buffer .exit)) r) (now (self .entry)) (now (self .exit)) ⌝ }
+        ensures exact { λ r. ⌜ MirrorFetched (D·Device .meaning) (E·Device .meaning) (D·Device .fetched) (E·Device .fetched) (now (self .entry)) sector (now (buffer .entry)) r (now (self .exit)) (now (buffer .exit)) ⌝ }
     {
         if sector >= self.size() {
             return Err(Fault::out_of_range(Layer::Mirror.number(), sector));
@@ -277,6 +295,7 @@ pub impl<D: Device, E: Device> Device for Mirror<D, E> as MirrorDevice {
         ensures meets { λ r. ⌜ Writes mirrorLayer (mirrorMeaning (D·Device .meaning) (E·Device .meaning) (now (self .entry))) sector (now (content .entry)) r (mirrorMeaning (D·Device .meaning) (E·Device .meaning) (now (self .exit))) ⌝ }
         ensures lists { λ r. ⌜ OnSides (D·Device .meaning) (E·Device .meaning) (EachWrote sector (now (content .entry)) r) (now (self .entry)) (now (self .exit)) ⌝ }
         ensures sides { λ r. ⌜ OnSides (D·Device .meaning) (E·Device .meaning) (MirrorWrites sector (now (content .entry)) r) (now (self .entry)) (now (self .exit)) ⌝ }
+        ensures exact { λ r. ⌜ MirrorWrote (D·Device .meaning) (E·Device .meaning) (D·Device .wrote) (E·Device .wrote) (now (self .entry)) sector (now (content .entry)) r (now (self .exit)) ⌝ }
     {
         if sector >= self.size() {
             return Err(Fault::out_of_range(Layer::Mirror.number(), sector));
@@ -291,6 +310,7 @@ pub impl<D: Device, E: Device> Device for Mirror<D, E> as MirrorDevice {
         ensures meets { λ r. ⌜ Flushes (mirrorMeaning (D·Device .meaning) (E·Device .meaning) (now (self .entry))) r (mirrorMeaning (D·Device .meaning) (E·Device .meaning) (now (self .exit))) ⌝ }
         ensures lists { λ r. ⌜ OnSides (D·Device .meaning) (E·Device .meaning) (EachFlushed r) (now (self .entry)) (now (self .exit)) ⌝ }
         ensures sides { λ r. ⌜ OnSides (D·Device .meaning) (E·Device .meaning) (MirrorFlushes r) (now (self .entry)) (now (self .exit)) ⌝ }
+        ensures exact { λ r. ⌜ MirrorFlushed (D·Device .meaning) (E·Device .meaning) (D·Device .flushed) (E·Device .flushed) (now (self .entry)) r (now (self .exit)) ⌝ }
     {
         if let Power::Off(fault) = self.power() {
             return Err(fault);

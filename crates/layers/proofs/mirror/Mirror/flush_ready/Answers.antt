@@ -14,7 +14,7 @@ returns g c =
     let b′ = g .E·Device .meaning (c .flush-sides-sides .last .self .second) in
     let o = c .flush-sides-sides .result .first in
     let p = c .flush-sides-sides .result .second in
-    let did = c .flush-sides-sides .ensures in
+    let did = c .flush-sides-sides .ensures .meets in
     let says : c .answer .result ≡ joined o p (bothPower (a′ .power) (b′ .power)) = cc in
     record {
       meets =
@@ -22,4 +22,5 @@ returns g c =
           (flush-joined a b a′ b′ o p (c .pre .first) (c .pre .second) (did .first) (did .second));
       lists = subst (λ (r : Answer). EachFlushed r a b a′ b′) (sym says) (flush-lists a b a′ b′ o p (did .first) (did .second));
       sides = (o, p, did, says);
+      exact = (o, p, c .flush-sides-sides .ensures .exact-first, c .flush-sides-sides .ensures .exact-second, says);
     }

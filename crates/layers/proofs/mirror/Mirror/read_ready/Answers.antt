@@ -20,6 +20,7 @@ returns g c =
     record {
       meets =
           subst (λ (r : Answer). Reads mirrorLayer (mirrored a b) (c .args .sector) before r (mirrored a′ b′) after) (sym says)
-          (read-joined a b a′ b′ (c .args .sector) before after o p (c .pre .first) (c .pre .second) (c .read-sides-sides .ensures));
-      sides = (o, p, c .read-sides-sides .ensures, says);
+          (read-joined a b a′ b′ (c .args .sector) before after o p (c .pre .first) (c .pre .second) (c .read-sides-sides .ensures .meets));
+      sides = (o, p, c .read-sides-sides .ensures .meets, says);
+      exact = (o, p, c .read-sides-sides .ensures .exact, says);
     }

@@ -16,7 +16,7 @@ returns g c =
     let p = c .write-sides-sides .result .second in
     let s = c .args .sector in
     let w = c .args .content .now in
-    let did = c .write-sides-sides .ensures in
+    let did = c .write-sides-sides .ensures .meets in
     let says : c .answer .result ≡ joined o p (bothPower (a′ .power) (b′ .power)) = cc in
     record {
       meets =
@@ -24,4 +24,5 @@ returns g c =
           (write-joined a b a′ b′ s w o p (c .pre .first) (c .pre .second) (did .first) (did .second));
       lists = subst (λ (r : Answer). EachWrote s w r a b a′ b′) (sym says) (write-lists a b a′ b′ s w o p (did .first) (did .second));
       sides = (o, p, did, says);
+      exact = (o, p, c .write-sides-sides .ensures .exact-first, c .write-sides-sides .ensures .exact-second, says);
     }
