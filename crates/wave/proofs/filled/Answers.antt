@@ -6,8 +6,8 @@ use Rattle.wave.proofs.filled.Goals as goal
 
 pub returns : goal.returns
 returns c n whole speed size =
-    put_is n c.args.rate c.copy-from-slice.new.self c.copy-from-slice-2.new.self c.copy-from-slice-3.new.self c.copy-from-slice-4.new.self
-    (c.copy-from-slice.ensures.after ∙ c.to-le-bytes.ensures ∙ le32_wraps c.args.whole (36 + 2 * n) whole)
-    (c.copy-from-slice-2.ensures.after ∙ c.to-le-bytes-2.ensures)
-    (c.copy-from-slice-3.ensures.after ∙ c.to-le-bytes-3.ensures ∙ le32_wraps c.args.speed (2 * c.args.rate) speed)
-    (c.copy-from-slice-4.ensures.after ∙ c.to-le-bytes-4.ensures ∙ le32_wraps c.args.size (2 * n) size)
+    put_is n c.args.rate c.copy_from_slice.new.self c.copy_from_slice-2.new.self c.copy_from_slice-3.new.self c.copy_from_slice-4.new.self
+    (c.copy_from_slice.ensures.after ∙ c.to_le_bytes.ensures ∙ le32_wraps c.args.whole (36 + 2 * n) whole)
+    (c.copy_from_slice-2.ensures.after ∙ c.to_le_bytes-2.ensures)
+    (c.copy_from_slice-3.ensures.after ∙ c.to_le_bytes-3.ensures ∙ le32_wraps c.args.speed (2 * c.args.rate) speed)
+    (c.copy_from_slice-4.ensures.after ∙ c.to_le_bytes-4.ensures ∙ le32_wraps c.args.size (2 * n) size)

@@ -24,7 +24,7 @@ returns-then-ne c =
       only = refl;
       back = λ rate samples ex.
           unequal head c.header.result c.ne.result ne.0 (slice_eq-Decides Decides-eqb _ _ _ ne.1) ne.2 c.if-ne.true
-          (own_header _ rate samples ex head c.in-Some.samples.now c.from-le-bytes-rate.result c.in-Ok.count told.0 told.1 c.from-le-bytes-rate.ensures c.in-Ok.ensures.1
+          (own_header _ rate samples ex head c.in-Some.samples.now c.from_le_bytes-rate.result c.in-Ok.count told.0 told.1 c.from_le_bytes-rate.ensures c.in-Ok.ensures.1
           ∙ sym c.header.ensures);
     }
 
@@ -35,8 +35,8 @@ returns c =
     let ne = c.ne.ensures in
     record {
       only =
-          laid_out _ head c.in-Some.samples.now c.from-le-bytes-rate.result c.in-Ok.count told.0 told.1
+          laid_out _ head c.in-Some.samples.now c.from_le_bytes-rate.result c.in-Ok.count told.0 told.1
           (equal head c.header.result c.ne.result ne.0 (slice_eq-Decides Decides-eqb _ _ _ ne.1) ne.2 c.if-ne.false ∙ c.header.ensures)
           c.in-Ok.ensures.1;
-      back = λ rate samples ex. (c.from-le-bytes-rate.ensures ∙ rate_is _ rate samples ex head told.0, told.1 ∙ rest_is _ rate samples ex);
+      back = λ rate samples ex. (c.from_le_bytes-rate.ensures ∙ rate_is _ rate samples ex head told.0, told.1 ∙ rest_is _ rate samples ex);
     }

@@ -15,7 +15,7 @@ pub returns : goal.returns
 returns g c =
     let w = width_of g.E.Element.kind in
     let v = g.E.Element.value in
-    let same : c.width-width.result ≡ width_of g.E.Element.kind = c.width-width.ensures ∙ ap width_of c.kind-of.ensures in
+    let same : c.width-width.result ≡ width_of g.E.Element.kind = c.width-width.ensures ∙ ap width_of c.kind_of.ensures in
     let all : c.loop-i.i ≡ c.args.count = omega arith in
     let e = c.loop-i.invariant.1 ∙ ap₂ (λ (k n : ℕ). unpacked v k n c.args.payload.now ++ drop n c.args.out.now) same all in
     record {

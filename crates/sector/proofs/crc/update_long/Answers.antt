@@ -15,4 +15,4 @@ returns c =
     let even : (length xs - 40) / 8 * 8 % 8 ≡ 0 = omega arith in
     let long : 38 ≤ length (drop ((length xs - 40) / 8 * 8) xs) = simp length-drop (omega arith) in
     c.finish.ensures ∙ ap (register (value c.fold.result)) (take_rest xs mid) ∙ c.fold.ensures (drop mid xs) long
-    ∙ ap₂ register (xor_zero_r c.args.start) (whole xs mid c.as-chunks.result.0.now le even c.as-chunks.ensures.front)
+    ∙ ap₂ register (xor_zero_r c.args.start) (whole xs mid c.as_chunks.result.0.now le even c.as_chunks.ensures.front)

@@ -7,42 +7,42 @@ use Rattle.sector.proofs.layout.unpack.Goals as goal
 pub returns : goal.returns
 returns c =
     let s = c.args.sector.now in
-    let p = c.payload-of.result.now in
+    let p = c.payload_of.result.now in
     let f : Fields =
     record {
       kind = c.args.kind;
       track = lib.ListN.get_or s 1 0;
-      count = c.u16-at.result;
-      sitting = c.u32-at.result;
-      place = c.u32-at-2.result;
-      epoch = c.u32-at-3.result;
-      take = c.u32-at-4.result;
-      a = c.u32-at-5.result;
-      b = c.u32-at-6.result;
+      count = c.u16_at.result;
+      sitting = c.u32_at.result;
+      place = c.u32_at-2.result;
+      epoch = c.u32_at-3.result;
+      take = c.u32_at-4.result;
+      a = c.u32_at-5.result;
+      b = c.u32_at-6.result;
     } in
     let r : ReadFrom s f =
     record {
       kind = c.requires;
       track = refl;
-      count = c.u16-at.ensures;
-      sitting = c.u32-at.ensures;
-      place = c.u32-at-2.ensures;
-      epoch = c.u32-at-3.ensures;
-      number = c.u32-at-4.ensures;
-      first = c.u32-at-5.ensures;
-      second = c.u32-at-6.ensures;
+      count = c.u16_at.ensures;
+      sitting = c.u32_at.ensures;
+      place = c.u32_at-2.ensures;
+      epoch = c.u32_at-3.ensures;
+      number = c.u32_at-4.ensures;
+      first = c.u32_at-5.ensures;
+      second = c.u32_at-6.ensures;
     } in
     let fits : Fits f p =
     record {
       track = c.fits-sector 1;
-      count = c.u16-at.type-inv;
-      sitting = c.u32-at.type-inv;
-      place = c.u32-at-2.type-inv;
-      epoch = c.u32-at-3.type-inv;
-      take = c.u32-at-4.type-inv;
-      first = c.u32-at-5.type-inv;
-      second = c.u32-at-6.type-inv;
-      whole = c.payload-of.ensures.len;
+      count = c.u16_at.type_inv;
+      sitting = c.u32_at.type_inv;
+      place = c.u32_at-2.type_inv;
+      epoch = c.u32_at-3.type_inv;
+      take = c.u32_at-4.type_inv;
+      first = c.u32_at-5.type_inv;
+      second = c.u32_at-6.type_inv;
+      whole = c.payload_of.ensures.len;
     } in
-    let only = record_read s f p c.told-sector r c.payload-of.ensures.value in
+    let only = record_read s f p c.told-sector r c.payload_of.ensures.value in
     record { only = only; back = record_told s f p fits only }

@@ -8,9 +8,9 @@ use Rattle.images.proofs.queued.QueuedImage.fetch.Goals as goal
 pub returns : goal.returns
 returns c =
     let p = c.args.self.now in
-    let h = c.load-newest.ensures in
-    let e = queued_newest queued_number p.sick p.bytes.now c.args.buffer.now c.load-newest.new.buffer (waiting p) c.args.sector c.requires h.settled h.waiting in
+    let h = c.load_newest.ensures in
+    let e = queued_newest queued_number p.sick p.bytes.now c.args.buffer.now c.load_newest.new.buffer (waiting p) c.args.sector c.requires h.settled h.waiting in
     record {
-      meets = reads_same queued_number c.args.sector (queued_meaning p) c.args.buffer.now c.load-newest.new.buffer c.requires e;
+      meets = reads_same queued_number c.args.sector (queued_meaning p) c.args.buffer.now c.load_newest.new.buffer c.requires e;
       exact = record { answer = sym (ap answer_of c.requires); buffer = e; same = refl };
     }

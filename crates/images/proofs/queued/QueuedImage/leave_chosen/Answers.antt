@@ -11,8 +11,8 @@ pub returns : goal.returns
 returns c =
     let plan = c.args.plan.now in
     let p = c.args.self.now in
-    let n = c.choose-and-clear.new.self in
-    let h = c.choose-and-clear.ensures in
+    let n = c.choose_and_clear.new.self in
+    let h = c.choose_and_clear.ensures in
     let e : queued_meaning n ≡ cut_by plan (queued_meaning p) =
     ap (λ (x : List (Option ℕ)). image_meaning queued_number x n.bytes.now (waiting n)) h.stays.sick
     ∙ queued_cut queued_number plan p.sick p.bytes.now n.bytes.now (waiting p) (waiting n) h.long h.queue h.bytes in

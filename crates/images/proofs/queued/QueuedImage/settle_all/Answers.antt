@@ -8,8 +8,8 @@ use Rattle.images.proofs.queued.QueuedImage.settle_all.Goals as goal
 pub returns : goal.returns
 returns c =
     let p = c.args.self.now in
-    let n = c.empty-queue.new.self in
-    let h = c.empty-queue.ensures in
+    let n = c.empty_queue.new.self in
+    let h = c.empty_queue.ensures in
     let full = p.queue.full in
     record {
       meets = subst (λ (x : List (Option ℕ)). Flushes (queued_meaning p) (Ok tt) (image_meaning queued_number x n.bytes.now (waiting n))) (sym h.stays.sick)

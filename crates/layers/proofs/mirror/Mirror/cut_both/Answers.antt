@@ -8,9 +8,9 @@ use Rattle.layers.proofs.mirror.Mirror.cut_both.Goals as goal
 pub returns : goal.returns
 returns g c =
     let before = c.args.self.now in
-    let after = c.cut-sides.new.self in
-    let h = c.cut-sides.ensures.first in
-    let k = c.cut-sides.ensures.second in
+    let after = c.cut_sides.new.self in
+    let h = c.cut_sides.ensures.first in
+    let k = c.cut_sides.ensures.second in
     let a = g.D.Device.meaning before.first in
     let b = g.E.Device.meaning before.second in
     let a' = g.D.Device.meaning after.first in

@@ -10,11 +10,11 @@ pub returns : goal.returns
 returns g c =
     let a = g.D.Device.meaning c.args.self.now.first in
     let b = g.E.Device.meaning c.args.self.now.second in
-    let a' = g.D.Device.meaning c.flush-sides-sides.new.self.first in
-    let b' = g.E.Device.meaning c.flush-sides-sides.new.self.second in
-    let o = c.flush-sides-sides.result.first in
-    let p = c.flush-sides-sides.result.second in
-    let did = c.flush-sides-sides.ensures.meets in
+    let a' = g.D.Device.meaning c.flush_sides-sides.new.self.first in
+    let b' = g.E.Device.meaning c.flush_sides-sides.new.self.second in
+    let o = c.flush_sides-sides.result.first in
+    let p = c.flush_sides-sides.result.second in
+    let did = c.flush_sides-sides.ensures.meets in
     let says : c.answer.result ≡ joined o p (both_power a'.power b'.power) = cc in
     record {
       meets =
@@ -22,5 +22,5 @@ returns g c =
           (flush_joined a b a' b' o p c.requires.first c.requires.second did.first did.second);
       lists = subst (λ (r : Answer). EachFlushed r a b a' b') (sym says) (flush_lists a b a' b' o p did.first did.second);
       sides = (o, p, did, says);
-      exact = (o, p, c.flush-sides-sides.ensures.exact-first, c.flush-sides-sides.ensures.exact-second, says);
+      exact = (o, p, c.flush_sides-sides.ensures.exact_first, c.flush_sides-sides.ensures.exact_second, says);
     }

@@ -10,17 +10,17 @@ pub returns : goal.returns
 returns g c =
     let a = g.D.Device.meaning c.args.self.now.first in
     let b = g.E.Device.meaning c.args.self.now.second in
-    let a' = g.D.Device.meaning c.read-sides-sides.new.self.first in
-    let b' = g.E.Device.meaning c.read-sides-sides.new.self.second in
-    let o = c.read-sides-sides.result.first in
-    let p = c.read-sides-sides.result.second in
+    let a' = g.D.Device.meaning c.read_sides-sides.new.self.first in
+    let b' = g.E.Device.meaning c.read_sides-sides.new.self.second in
+    let o = c.read_sides-sides.result.first in
+    let p = c.read_sides-sides.result.second in
     let before = c.args.buffer.now in
-    let after = c.read-sides-sides.new.buffer in
+    let after = c.read_sides-sides.new.buffer in
     let says : c.answer.result ≡ joined o p (both_power a'.power b'.power) = cc in
     record {
       meets =
           subst (λ (r : Answer). Reads mirror_layer (mirrored a b) c.args.sector before r (mirrored a' b') after) (sym says)
-          (read_joined a b a' b' c.args.sector before after o p c.requires.first c.requires.second c.read-sides-sides.ensures.meets);
-      sides = (o, p, c.read-sides-sides.ensures.meets, says);
-      exact = (o, p, c.read-sides-sides.ensures.exact, says);
+          (read_joined a b a' b' c.args.sector before after o p c.requires.first c.requires.second c.read_sides-sides.ensures.meets);
+      sides = (o, p, c.read_sides-sides.ensures.meets, says);
+      exact = (o, p, c.read_sides-sides.ensures.exact, says);
     }

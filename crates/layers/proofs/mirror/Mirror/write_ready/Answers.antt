@@ -10,13 +10,13 @@ pub returns : goal.returns
 returns g c =
     let a = g.D.Device.meaning c.args.self.now.first in
     let b = g.E.Device.meaning c.args.self.now.second in
-    let a' = g.D.Device.meaning c.write-sides-sides.new.self.first in
-    let b' = g.E.Device.meaning c.write-sides-sides.new.self.second in
-    let o = c.write-sides-sides.result.first in
-    let p = c.write-sides-sides.result.second in
+    let a' = g.D.Device.meaning c.write_sides-sides.new.self.first in
+    let b' = g.E.Device.meaning c.write_sides-sides.new.self.second in
+    let o = c.write_sides-sides.result.first in
+    let p = c.write_sides-sides.result.second in
     let s = c.args.sector in
     let w = c.args.content.now in
-    let did = c.write-sides-sides.ensures.meets in
+    let did = c.write_sides-sides.ensures.meets in
     let says : c.answer.result ≡ joined o p (both_power a'.power b'.power) = cc in
     record {
       meets =
@@ -24,5 +24,5 @@ returns g c =
           (write_joined a b a' b' s w o p c.requires.first c.requires.second did.first did.second);
       lists = subst (λ (r : Answer). EachWrote s w r a b a' b') (sym says) (write_lists a b a' b' s w o p did.first did.second);
       sides = (o, p, did, says);
-      exact = (o, p, c.write-sides-sides.ensures.exact-first, c.write-sides-sides.ensures.exact-second, says);
+      exact = (o, p, c.write_sides-sides.ensures.exact_first, c.write_sides-sides.ensures.exact_second, says);
     }
