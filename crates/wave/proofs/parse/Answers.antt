@@ -1,18 +1,18 @@
 -- A file is cut after 44 bytes: where that fails or they are not the header of the rest, no export wrote it.
 use Rattle.std.proofs.Common.{◌≡◌, length, sym, refl, ap, ◌∙◌, arith}
-use Rattle.std.proofs.lemmas.Slice.Eq.{slice_eq-Decides}
+use Rattle.std.specs.Str.{bytes_eq}
+use Rattle.std.proofs.lemmas.Slice.Eq.{bytes_eq-Decides}
 use Rattle.wave.proofs.Files.{file_length, rest_is, rate_is, own_header, laid_out, equal, unequal}
 use Rattle.wave.proofs.parse.Goals as goal
-use Rattle.std.proofs.lemmas.Bool.Decides.{Decides-eqb}
 
-pub returns-in-default : goal.returns-in-default
-returns-in-default c = record { only = refl; back = λ rate samples ex. omega (arith, c.in-default.ensures.cases, file_length _ rate samples ex) }
+pub returns-in_default : goal.returns-in_default
+returns-in_default c = record { only = refl; back = λ rate samples ex. omega (arith, c.in_default.ensures.cases, file_length _ rate samples ex) }
 
-pub returns-in-default-try-from : goal.returns-in-default-try-from
-returns-in-default-try-from c =
+pub returns-in_default-try_from : goal.returns-in_default-try_from
+returns-in_default-try_from c =
     record {
       only = refl;
-      back = λ rate samples ex. c.in-default-try-from.ensures (omega (arith, ex.few, ap length (c.in-Some.ensures.cases.1 ∙ rest_is _ rate samples ex)));
+      back = λ rate samples ex. c.in_default-try_from.ensures (omega (arith, ex.few, ap length (c.in-Some.ensures.cases.1 ∙ rest_is _ rate samples ex)));
     }
 
 pub returns-then-ne : goal.returns-then-ne
@@ -23,7 +23,7 @@ returns-then-ne c =
     record {
       only = refl;
       back = λ rate samples ex.
-          unequal head c.header.result c.ne.result ne.0 (slice_eq-Decides Decides-eqb _ _ _ ne.1) ne.2 c.if-ne.true
+          unequal head c.header.result c.ne.result (bytes_eq head c.header.result) (bytes_eq-Decides head c.header.result) ne c.if-ne.true
           (own_header _ rate samples ex head c.in-Some.samples.now c.from_le_bytes-rate.result c.in-Ok.count told.0 told.1 c.from_le_bytes-rate.ensures c.in-Ok.ensures.1
           ∙ sym c.header.ensures);
     }
@@ -36,7 +36,7 @@ returns c =
     record {
       only =
           laid_out _ head c.in-Some.samples.now c.from_le_bytes-rate.result c.in-Ok.count told.0 told.1
-          (equal head c.header.result c.ne.result ne.0 (slice_eq-Decides Decides-eqb _ _ _ ne.1) ne.2 c.if-ne.false ∙ c.header.ensures)
+          (equal head c.header.result c.ne.result (bytes_eq head c.header.result) (bytes_eq-Decides head c.header.result) ne c.if-ne.false ∙ c.header.ensures)
           c.in-Ok.ensures.1;
       back = λ rate samples ex. (c.from_le_bytes-rate.ensures ∙ rate_is _ rate samples ex head told.0, told.1 ∙ rest_is _ rate samples ex);
     }

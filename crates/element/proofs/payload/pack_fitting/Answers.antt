@@ -4,16 +4,16 @@ use Rattle.element.specs.Kinds.{width_of}
 use Rattle.element.proofs.Packed.{packed_more, put_more, room}
 use Rattle.element.proofs.payload.pack_fitting.Goals as goal
 
-pub overflow-add-end : goal.overflow-add-end
-overflow-add-end g c =
+pub overflow_add-end : goal.overflow_add-end
+overflow_add-end g c =
     let f = g.E.Element.bytes in
     let x = c.x-item.result in
     let lw = g.met.E.Element.wide x ∙ sym (c.width-width.ensures ∙ ap width_of c.kind_of.ensures) in
     let r = room f c.args.elements.now c.loop-x.x-index x c.width-width.result (length c.args.payload.now) c.loop-x.at c.loop-x-test.true c.x-item.is lw c.requires c.loop-x.invariant.0 in
     search rules
 
-pub slice-bounds-put-end : goal.slice-bounds-put-end
-slice-bounds-put-end g c =
+pub slice_bounds-put-end : goal.slice_bounds-put-end
+slice_bounds-put-end g c =
     let f = g.E.Element.bytes in
     let x = c.x-item.result in
     let lw = g.met.E.Element.wide x ∙ sym (c.width-width.ensures ∙ ap width_of c.kind_of.ensures) in
