@@ -1,7 +1,7 @@
 -- Lists of contents: what remains, what is kept and what is worn.
-use Rattle.std.proofs.Common.{◌≡◌, ℕ, ◌⊎◌, List, [], ◌∷◌, ◌++◌, sym, refl, subst, inl, inr, ⊎_elim}
+use Rattle.std.proofs.Common.{◌≡◌, ℕ, List, [], ◌∷◌, ◌++◌, sym, refl, subst, inl, inr, ⊎_elim}
 use Rattle.device.specs.Meaning.{Sector, sick, held}
-use Rattle.device.specs.Calls.{Remains, Kept, Worn, added, settled}
+use Rattle.device.specs.Calls.{Remains, Kept, Worn, settled}
 
 pub remains_append : (xs ys : List (List ℕ)) → Remains xs (xs ++ ys)
 remains_append [] ys = tt

@@ -4,7 +4,7 @@ use Rattle.device.specs.declared.fault.Fault.{Fault}
 use Rattle.device.specs.declared.fault.Power.{Power}
 use Rattle.device.specs.declared.fault.Power.TheVariants.{On}
 use Rattle.device.specs.Faults.{out_of_range}
-use Rattle.device.specs.Meaning.{Sector, Meaning, newest}
+use Rattle.device.specs.Meaning.{Meaning, newest}
 use Rattle.device.specs.Calls.{Answer, ByFault, Reads, Writes, Flushes, Refused, Went, Accepted, standing, first_fault, power_fault, sick_fault, filled, settled, written}
 
 pub split : {P : Type 0} (b : Bool) → (b ≡ true → P) → (b ≡ false → P) → P

@@ -1,5 +1,7 @@
 // What a device is: sectors of 512 bytes, power that may go at any moment, and writes that settle in an order of the device's own.
 // docs/DEVICE.md tells the meaning in words; specs/ states it.
+#![tactic(auto)]
+
 ghost use Rattle.std.specs.Prelude.{◌≡◌, ℕ, List, ◌∷◌, map};
 ghost use Rattle.device.specs.Calls.{Answer, Reads, Writes, Flushes};
 ghost use Rattle.device.specs.Cuts.{EachCut, cut_by};

@@ -1,12 +1,12 @@
 -- Two bytes and the sample that they say.
-use Rattle.std.specs.Prelude.{◌≡◌, ℕ, ◌+◌, ◌*◌, ◌<◌, true, List, length, ◌==◌, slice_index, slice_index_or}
-use Rattle.std.proofs.Common.{ap, ◌∙◌, sym, arith, take_all, to_z, eqb-true}
+use Rattle.std.specs.Prelude.{◌≡◌, ℕ, ◌+◌, ◌*◌, ◌<◌, true, List, length, ◌==◌, slice_index}
+use Rattle.std.proofs.Common.{◌∙◌, arith, take_all, to_z, eqb-true}
 use Rattle.std.specs.Int.{w16}
 use Rattle.std.proofs.lemmas.Int.{of_z-to_z}
 use Rattle.std.proofs.lemmas.Bool.Decides.{nat_tests}
-use Rattle.little_endian.specs.Little.{Bytes, le16}
+use Rattle.little_endian.specs.Little.{Bytes}
 use Rattle.little_endian.proofs.Little.{le16_of}
-use Rattle.little_endian.proofs.Parts.{spelled, spelled_is}
+use Rattle.little_endian.proofs.Parts.{spelled_is}
 use Rattle.element.specs.Sounds.{sample_lawful, sample_bytes, sample_of}
 
 lawful_read : (n : ℕ) → n < 65536 → sample_lawful (to_z w16 n) ≡ true
@@ -17,7 +17,7 @@ only bs h e =
     let l : length bs ≡ 2 = eqb-true (length bs) 2 e in
     let h0 = h 0 in
     let h1 = h 1 in
-    let small : slice_index_or bs 0 0 + slice_index bs 1 * 256 < 65536 = omega arith in
+    let small : slice_index bs 0 + slice_index bs 1 * 256 < 65536 = omega arith in
     let n : ℕ = slice_index bs 0 + slice_index bs 1 * 256 in (
       lawful_read (slice_index bs 0 + slice_index bs 1 * 256) small,
       le16_of _ (slice_index bs 0) (slice_index bs 1) h0 h1 (of_z-to_z w16 (slice_index bs 0 + slice_index bs 1 * 256) small) ∙ spelled_is 2 0 bs (omega arith) ∙ take_all 2 bs (omega arith),

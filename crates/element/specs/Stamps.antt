@@ -1,9 +1,9 @@
 -- Eight bytes and the mark that they say.
-use Rattle.std.specs.Prelude.{◌≡◌, ℕ, ◌+◌, ◌*◌, ◌<◌, ◌≤◌, Bool, true, false, ◌&&◌, List, [], ◌∷◌, ◌++◌, length, ◌==◌, nat_lt, slice_index, slice_index_or, refl}
+use Rattle.std.specs.Prelude.{◌≡◌, ℕ, ◌<◌, Bool, true, false, ◌&&◌, List, [], ◌∷◌, ◌++◌, length, ◌==◌, nat_lt, slice_index, refl}
 use Rattle.std.proofs.Common.{ap, ap₂, ◌∙◌, sym, arith, take_all, eqb-true, lt-ltb}
-use Rattle.little_endian.specs.Little.{Bytes, le16, le32}
+use Rattle.little_endian.specs.Little.{Bytes}
 use Rattle.little_endian.proofs.Little.{le16_of, le32_of}
-use Rattle.little_endian.proofs.Parts.{spelled, spelled_is}
+use Rattle.little_endian.proofs.Parts.{spelled_is}
 use Rattle.element.specs.Marks.{mark_lawful, mark_bytes, mark_of, stamp_lawful}
 
 and_first : (a b : Bool) → (a && b) ≡ true → a ≡ true
@@ -23,7 +23,7 @@ only bs h e =
     let stamp : Bool = stamp_lawful (mark_of bs).point (mark_of bs).event in
     let e2 = and_second (length bs == 8) (stamp && slice_index bs 7 == 0) e in
     let l : length bs ≡ 8 = eqb-true (length bs) 8 (and_first (length bs == 8) (stamp && slice_index bs 7 == 0) e) in
-    let zero : slice_index_or bs 7 0 ≡ 0 = eqb-true (slice_index bs 7) 0 (and_second stamp (slice_index bs 7 == 0) e2) in
+    let zero : slice_index bs 7 ≡ 0 = eqb-true (slice_index bs 7) 0 (and_second stamp (slice_index bs 7 == 0) e2) in
     let h0 = h 0 in
     let h1 = h 1 in
     let h2 = h 2 in

@@ -1,4 +1,6 @@
 // Elements: what a track is made of. One text records and plays every type of element, by this trait.
+#![tactic(auto)]
+
 ghost use Rattle.std.specs.Prelude.{◌≡◌, ℕ, Bool, true, List, length};
 ghost use Rattle.little_endian.specs.Little.{Bytes};
 ghost use Rattle.element.specs.Kinds.{width_of, bytes_lawful};

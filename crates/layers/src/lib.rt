@@ -1,4 +1,5 @@
 // Layers: devices over devices. docs/DEVICE.md tells what each means; specs/ states it.
+#![tactic(auto)]
 
 pub mod fuse;
 pub mod mirror;

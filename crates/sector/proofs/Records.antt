@@ -1,11 +1,11 @@
 -- The layout: what is written part by part, what is read part by part, and that the bytes tell the record.
-use Rattle.std.proofs.Common.{◌≡◌, ℕ, suc, ◌+◌, ◌-◌, ◌*◌, ◌<◌, ◌≤◌, Bool, true, false, cond, eqb, ◌⊎◌, List, [], ◌∷◌, ◌++◌, length, get_or, take, drop, set, Some, None, MatchBool, Option, sym, refl, ap, ◌∙◌, subst, ap₂, inl, inr, ⊎_elim, append_assoc, append-nil, add-one, arith, length-append, length-take-le, take_all, drop-drop, take-add, MatchOption}
+use Rattle.std.proofs.Common.{◌≡◌, ℕ, suc, ◌+◌, ◌-◌, ◌*◌, ◌<◌, ◌≤◌, Bool, cond, eqb, List, [], ◌∷◌, ◌++◌, length, get_or, take, drop, set, Some, None, MatchBool, Option, sym, refl, ap, ◌∙◌, subst, ap₂, ⊎_elim, append_assoc, append-nil, add-one, arith, length-append, length-take-le, take_all, drop-drop, take-add, MatchOption}
 use borrow.Rule.Slice.PartMut.{put_mid}
 use Rattle.std.proofs.lemmas.List.{take_at, drop_at, drop_all, length-drop, take-append-drop, get_or_append_left, get_or-take}
 use Rattle.std.proofs.lemmas.Bool.Decides.{eqb_tells}
 use Rattle.little_endian.specs.Little.{Bytes, le16, le32}
 use Rattle.little_endian.proofs.Little.{le16_of, le32_of, same_le16, same_le32}
-use Rattle.little_endian.proofs.Parts.{spelled, spelled_is}
+use Rattle.little_endian.proofs.Parts.{spelled_is}
 use Rattle.sector.specs.Crc.{crc32}
 use Rattle.sector.specs.declared.layout.Kind.{Kind}
 use Rattle.sector.specs.declared.layout.Kind.TheVariants.{Header, Begin, Block, Trailer, Withdrawal, Opening}

@@ -1,5 +1,5 @@
 -- A word that leaves the window and its shares in the words above give the same register.
-use Rattle.std.proofs.Common.{◌≡◌, ℕ, zero, suc, ◌+◌, ◌-◌, ◌*◌, ◌/◌, ◌%◌, ◌^◌, ◌<◌, ◌≤◌, Bool, true, false, ◌&&◌, T, eqb, List, ◌++◌, length, sym, refl, ap, ◌∙◌, subst, ap₂, add-zero, mod-lt, mul_comm, div-lt_iff_lt-mul, one-mul, pow-suc, div-add-mod', zero-mul, arith, eqb→eq, pow_pos}
+use Rattle.std.proofs.Common.{◌≡◌, ℕ, zero, suc, ◌+◌, ◌-◌, ◌*◌, ◌/◌, ◌%◌, ◌^◌, ◌<◌, ◌≤◌, Bool, true, ◌&&◌, T, eqb, List, ◌++◌, length, sym, refl, ap, ◌∙◌, subst, ap₂, add-zero, mod-lt, mul_comm, div-lt_iff_lt-mul, one-mul, pow-suc, div-add-mod', zero-mul, arith, eqb→eq, pow_pos}
 use lib.Bits.{bit_xor, xor_comm, xor_assoc, xor_zero_r, xor_shr, xor_mod, xor_block, xor_shifted, xor_lt}
 use Rattle.sector.specs.Crc.{step, steps, register}
 use Rattle.sector.specs.declared.crc.Window.{Window}

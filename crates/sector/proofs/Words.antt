@@ -1,5 +1,5 @@
 -- One byte, four bytes and eight bytes at once.
-use Rattle.std.proofs.Common.{◌≡◌, ℕ, zero, suc, ◌+◌, ◌*◌, ◌/◌, ◌%◌, ◌^◌, ◌<◌, List, [], ◌∷◌, length, get_or, take, drop, sym, refl, ap, ◌∙◌, subst, pow-suc, arith, take_all}
+use Rattle.std.proofs.Common.{◌≡◌, ℕ, zero, suc, ◌/◌, ◌%◌, ◌^◌, ◌<◌, List, length, get_or, sym, ap, ◌∙◌, subst, pow-suc, arith, take_all}
 use lib.Bits.{bit_xor}
 use Rattle.std.proofs.lemmas.Nat.{div_below}
 use Rattle.little_endian.specs.Little.{Bytes}

@@ -1,5 +1,5 @@
 -- The 512 bytes of a sector: its numbers, its payload and its check.
-use Rattle.std.specs.Prelude.{◌≡◌, ℕ, ◌<◌, ◌≤◌, List, [], ◌∷◌, ◌++◌, length, take, drop, Some, None, Option, ◌≢◌, slice_index, slice_index_or}
+use Rattle.std.specs.Prelude.{◌≡◌, ℕ, ◌<◌, ◌≤◌, List, ◌∷◌, ◌++◌, length, take, drop, Some, None, Option, ◌≢◌, slice_index}
 use Rattle.little_endian.specs.Little.{le16, le32}
 use Rattle.sector.specs.Crc.{crc32}
 use Rattle.sector.specs.declared.layout.Kind.{Kind}
@@ -49,7 +49,7 @@ pub record Fits (f : Fields) (payload : List ℕ) : Type 0 where
 -- a sector that can have been written whole: its kind is known, and it ends in the check of its other bytes
 pub record Sound (s : List ℕ) : Type 0 where
   pub low : 1 ≤ slice_index s 0
-  pub high : slice_index_or s 0 0 ≤ 6
+  pub high : slice_index s 0 ≤ 6
   pub checked : s ≡ sealed (take 508 s)
 
 -- a sector that is not sound, and that no record has

@@ -1,6 +1,7 @@
 // Sectors of 512 bytes: their layout and their check.
+#![tactic(auto)]
+
 pub mod crc;
-pub mod ffi;
 pub mod layout;
 mod tables;
 

@@ -11,7 +11,7 @@ mod tests {
 
     #[test]
     fn a_header_is_laid_out(rt: HostRuntime) {
-        assert!(rt; &header(8000, 3) == &FILE[..44]);
+        assert!(rt; header(8000, 3).as_slice() == &FILE[..44]);
     }
 
     #[test]

@@ -1,4 +1,6 @@
 // WAVE files of 16-bit mono sound: a header of 44 bytes, then two bytes for each sample.
+#![tactic(auto)]
+
 ghost use Rattle.std.specs.Prelude.{◌≡◌, ℕ, ◌+◌, ◌*◌, ◌%◌, ◌^◌, ◌<◌, List, ◌++◌, Ok, Err};
 ghost use Rattle.wave.specs.declared.Refusal.TheVariants.{NotWave};
 ghost use Rattle.wave.specs.Reading.{refusal_number, Gives};

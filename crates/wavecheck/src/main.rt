@@ -1,4 +1,6 @@
 // Says of each file named whether it is a sound that an export writes, and what it holds.
+#![tactic(auto)]
+
 ghost use Rattle.std.specs.Prelude.{◌≡◌};
 ghost use Rattle.wavecheck.specs.Findings.{Judged};
 ghost use Rattle.wavecheck.specs.Tallies.{counted};

@@ -1,5 +1,5 @@
 -- Each number is stored modulo 2^32, so its four bytes are those of the number before it wrapped.
-use Rattle.std.proofs.Common.{◌≡◌, ◌+◌, ◌*◌, ◌∙◌}
+use Rattle.std.proofs.Common.{◌+◌, ◌*◌, ◌∙◌}
 use Rattle.little_endian.proofs.Little.{le32_wraps}
 use Rattle.wave.proofs.Headers.{put_is}
 use Rattle.wave.proofs.filled.Goals as goal

@@ -1,5 +1,5 @@
 -- A file is cut after 44 bytes: where that fails or they are not the header of the rest, no export wrote it.
-use Rattle.std.proofs.Common.{◌≡◌, length, sym, refl, ap, ◌∙◌, arith}
+use Rattle.std.proofs.Common.{length, sym, refl, ap, ◌∙◌, arith}
 use Rattle.std.specs.Str.{bytes_eq}
 use Rattle.std.proofs.lemmas.Slice.Eq.{bytes_eq-Decides}
 use Rattle.wave.proofs.Files.{file_length, rest_is, rate_is, own_header, laid_out, equal, unequal}

@@ -1,4 +1,4 @@
-use Rattle.std.proofs.Common.{◌≡◌, ◌+◌, ◌≤◌, ◌++◌, length, take, drop, sym, ap, ◌∙◌, add-one, arith, length-append, take_all, rules}
+use Rattle.std.proofs.Common.{length, sym, ap, ◌∙◌, add-one, arith, length-append, take_all, rules}
 use Rattle.std.specs.List.{flat_map}
 use Rattle.element.specs.Kinds.{width_of}
 use Rattle.element.proofs.Packed.{packed_more, put_more, room}

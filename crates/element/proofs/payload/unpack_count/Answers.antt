@@ -1,4 +1,4 @@
-use Rattle.std.proofs.Common.{◌≡◌, ℕ, ◌+◌, ◌*◌, List, ◌++◌, length, take, drop, sym, ap, ◌∙◌, ap₂, suc-mul, add-one, arith}
+use Rattle.std.proofs.Common.{◌≡◌, ℕ, ◌++◌, length, take, drop, ap, ◌∙◌, ap₂, suc-mul, add-one, arith}
 use Rattle.element.specs.Kinds.{width_of}
 use Rattle.element.specs.Payload.{unpacked}
 use Rattle.element.proofs.Unpacks.{unpack_more, unpack_back}

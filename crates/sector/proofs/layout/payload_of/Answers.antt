@@ -1,4 +1,4 @@
-use Rattle.std.proofs.Common.{◌≡◌, length, take, drop, ap, ◌∙◌, arith, length-drop, length-take-le, take-take}
+use Rattle.std.proofs.Common.{◌≡◌, length, drop, ap, ◌∙◌, arith, length-drop, length-take-le, take-take}
 use Rattle.sector.specs.Layout.{payload_of}
 use Rattle.sector.proofs.layout.payload_of.Goals as goal
 

@@ -1,4 +1,4 @@
-use Rattle.std.proofs.Common.{◌≡◌, ℕ, List, [], ◌∷◌, ◌++◌, drop, refl, ap, ◌∙◌, arith}
+use Rattle.std.proofs.Common.{ℕ, List, [], ◌∷◌, ◌++◌, drop, refl, ap, ◌∙◌, arith}
 use Rattle.little_endian.specs.Little.{le16, le32}
 use Rattle.sector.specs.Layout.{kind_number, field_bytes, payload_of}
 use Rattle.sector.proofs.Records.{put_first, put_more, fields_put, known_put}

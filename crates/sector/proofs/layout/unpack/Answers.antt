@@ -1,4 +1,4 @@
-use Rattle.std.proofs.Common.{refl, ◌∙◌}
+use Rattle.std.proofs.Common.{refl}
 use Rattle.sector.specs.declared.layout.Fields.{Fields}
 use Rattle.sector.specs.Layout.{Fits}
 use Rattle.sector.proofs.Records.{ReadFrom, record_read, record_told}

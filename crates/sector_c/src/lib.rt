@@ -1,8 +1,10 @@
-// The check for callers that link the library from another language, as the benchmark does.
+// The check of sectors for callers that link it from another language, as the benchmark does.
+#![tactic(auto)]
+
 ghost use Rattle.std.specs.Prelude.{◌≡◌};
 ghost use Rattle.sector.specs.Crc.{crc32};
 
-use crate::crc::crc32;
+use sector::crc::crc32;
 
 // The check of `bytes`.
 #[unsafe(no_mangle)]
