@@ -41,14 +41,14 @@ cut_at true true f x x' c xs h = refl
 cut_at true false f x x' c xs h = ap (held []) h ∙ left_chosen c x xs
 
 -- the whole image is as the plan says
-pub queued_cut : (layer : ℕ) (plan : List ℕ) (sickOnes : List (Option ℕ)) (bytes bytes' : List ℕ) (queue queue' : List WaitingWrite) → length bytes' ≡ length bytes → queue' ≡ []
+pub queued_cut : (layer : ℕ) (plan : List ℕ) (sick_ones : List (Option ℕ)) (bytes bytes' : List ℕ) (queue queue' : List WaitingWrite) → length bytes' ≡ length bytes → queue' ≡ []
     → ((t : ℕ) → content bytes' t ≡ cond (ltb t (whole bytes)) (left_at plan bytes queue t) (content bytes t))
-    → image_meaning layer sickOnes bytes' queue' ≡ cut_by plan (image_meaning layer sickOnes bytes queue)
-queued_cut layer plan sickOnes bytes bytes' queue queue' l e h =
-    ap (image_meaning layer sickOnes bytes') e
-    ∙ ap (λ (n : ℕ). record { size = n; power = On; sector = λ t. sector_of (ltb t n) (is_sick sickOnes t) (sick_at layer t) (content bytes' t) [] }) (whole_same bytes bytes' l)
+    → image_meaning layer sick_ones bytes' queue' ≡ cut_by plan (image_meaning layer sick_ones bytes queue)
+queued_cut layer plan sick_ones bytes bytes' queue queue' l e h =
+    ap (image_meaning layer sick_ones bytes') e
+    ∙ ap (λ (n : ℕ). record { size = n; power = On; sector = λ t. sector_of (ltb t n) (is_sick sick_ones t) (sick_at layer t) (content bytes' t) [] }) (whole_same bytes bytes' l)
     ∙ ap (λ (f : ℕ → Sector). record { size = whole bytes; power = On; sector = f })
-    (fun_ext (λ t. cut_at (ltb t (whole bytes)) (is_sick sickOnes t) (sick_at layer t) (content bytes t) (content bytes' t) (get_or plan t 0) (waiting_for t queue) (h t)))
+    (fun_ext (λ t. cut_at (ltb t (whole bytes)) (is_sick sick_ones t) (sick_at layer t) (content bytes t) (content bytes' t) (get_or plan t 0) (waiting_for t queue) (h t)))
 
 -- one sector chosen: its bytes
 full_cond : (e : Bool) (b : List ℕ) (xs : List (List ℕ)) (c : ℕ) → length b ≡ 512 → ((k : ℕ) → length (get_or xs k (replicate 512 0)) ≡ 512) → length (get_or (cond e (b ∷ xs) xs) c (replicate 512 0)) ≡ 512

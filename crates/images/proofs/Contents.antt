@@ -58,8 +58,8 @@ refusal_at true true f g x xs = refl
 refusal_at true false f g x xs = sym (listed_well x xs)
 
 -- of an image only range and sickness stand in the way
-pub refusal_stands : (layer : ℕ) (sickOnes : List (Option ℕ)) (bytes : List ℕ) (queue : List WaitingWrite) (s : ℕ) → refusal layer (whole bytes) sickOnes s ≡ standing layer (image_meaning layer sickOnes bytes queue) s
-refusal_stands layer sickOnes bytes queue s = refusal_at (ltb s (whole bytes)) (is_sick sickOnes s) (sick_at layer s) (out_of_range layer s) (content bytes s) (waiting_for s queue)
+pub refusal_stands : (layer : ℕ) (sick_ones : List (Option ℕ)) (bytes : List ℕ) (queue : List WaitingWrite) (s : ℕ) → refusal layer (whole bytes) sick_ones s ≡ standing layer (image_meaning layer sick_ones bytes queue) s
+refusal_stands layer sick_ones bytes queue s = refusal_at (ltb s (whole bytes)) (is_sick sick_ones s) (sick_at layer s) (out_of_range layer s) (content bytes s) (waiting_for s queue)
 
 none_inside : (inside bad : Bool) (f g : Fault) → cond inside (cond bad (Some f) None) (Some g) ≡ None → (inside ≡ true) × (bad ≡ false)
 none_inside false bad f g e = let z : ◌≡◌ {A = ℕ} 0 1 = cc in absurd (omega arith)
@@ -67,8 +67,8 @@ none_inside true true f g e = let z : ◌≡◌ {A = ℕ} 0 1 = cc in absurd (om
 none_inside true false f g e = (refl, refl)
 
 -- where nothing stands in the way, the sector is in range and not sick
-pub stands_well : (layer : ℕ) (sickOnes : List (Option ℕ)) (bytes : List ℕ) (queue : List WaitingWrite) (s : ℕ) → standing layer (image_meaning layer sickOnes bytes queue) s ≡ None → (ltb s (whole bytes) ≡ true) × (is_sick sickOnes s ≡ false)
-stands_well layer sickOnes bytes queue s e = none_inside (ltb s (whole bytes)) (is_sick sickOnes s) (sick_at layer s) (out_of_range layer s) (refusal_stands layer sickOnes bytes queue s ∙ e)
+pub stands_well : (layer : ℕ) (sick_ones : List (Option ℕ)) (bytes : List ℕ) (queue : List WaitingWrite) (s : ℕ) → standing layer (image_meaning layer sick_ones bytes queue) s ≡ None → (ltb s (whole bytes) ≡ true) × (is_sick sick_ones s ≡ false)
+stands_well layer sick_ones bytes queue s e = none_inside (ltb s (whole bytes)) (is_sick sick_ones s) (sick_at layer s) (out_of_range layer s) (refusal_stands layer sick_ones bytes queue s ∙ e)
 
 -- a read that changes nothing
 pub reads_same : (layer s : ℕ) (m : Meaning) (buffer buffer' : List ℕ) → standing layer m s ≡ None → buffer' ≡ newest (m.sector s) → Reads layer m s buffer (Ok tt) m buffer'

@@ -21,8 +21,8 @@ newest_at true true f x h = absurd (both_ways true h.1 refl)
 newest_at true false f x h = refl
 
 -- the only content is the newest
-pub plain_newest : (layer : ℕ) (sickOnes : List (Option ℕ)) (bytes : List ℕ) (s : ℕ) → standing layer (image_meaning layer sickOnes bytes []) s ≡ None → content bytes s ≡ newest (image_sector layer sickOnes bytes [] s)
-plain_newest layer sickOnes bytes s e = newest_at (ltb s (whole bytes)) (is_sick sickOnes s) (sick_at layer s) (content bytes s) (stands_well layer sickOnes bytes [] s e)
+pub plain_newest : (layer : ℕ) (sick_ones : List (Option ℕ)) (bytes : List ℕ) (s : ℕ) → standing layer (image_meaning layer sick_ones bytes []) s ≡ None → content bytes s ≡ newest (image_sector layer sick_ones bytes [] s)
+plain_newest layer sick_ones bytes s e = newest_at (ltb s (whole bytes)) (is_sick sick_ones s) (sick_at layer s) (content bytes s) (stands_well layer sick_ones bytes [] s e)
 
 replaced_at : (inside bad e : Bool) (f : Fault) (b c c' : List ℕ) → (e ≡ true → (inside ≡ true) × (bad ≡ false)) → c' ≡ cond e b c → sector_of inside bad f c' [] ≡ cond e (held [] b) (sector_of inside bad f c [])
 replaced_at inside bad false f b c c' h q = ap (λ (x : List ℕ). sector_of inside bad f x []) q
@@ -31,16 +31,16 @@ replaced_at true true true f b c c' h q = absurd (both_ways true (h refl).1 refl
 replaced_at true false true f b c c' h q = ap (held []) q
 
 -- a write replaces the content of its sector
-pub plain_lists : (layer : ℕ) (sickOnes : List (Option ℕ)) (bytes bytes' b : List ℕ) (s : ℕ) → standing layer (image_meaning layer sickOnes bytes []) s ≡ None → length b ≡ 512 → bytes' ≡ over bytes s b
-    → (t : ℕ) → image_sector layer sickOnes bytes' [] t ≡ replaced s b (image_sector layer sickOnes bytes []) t
-plain_lists layer sickOnes bytes bytes' b s n l e t =
-    let w = stands_well layer sickOnes bytes [] s n in
+pub plain_lists : (layer : ℕ) (sick_ones : List (Option ℕ)) (bytes bytes' b : List ℕ) (s : ℕ) → standing layer (image_meaning layer sick_ones bytes []) s ≡ None → length b ≡ 512 → bytes' ≡ over bytes s b
+    → (t : ℕ) → image_sector layer sick_ones bytes' [] t ≡ replaced s b (image_sector layer sick_ones bytes []) t
+plain_lists layer sick_ones bytes bytes' b s n l e t =
+    let w = stands_well layer sick_ones bytes [] s n in
     let lt : s < whole bytes = ltb-true _ _ w.0 in
     let h : 512 * s + 512 ≤ length bytes = omega arith in
-    ap (λ (x : List ℕ). image_sector layer sickOnes x [] t) e
-    ∙ ap (λ (k : ℕ). sector_of (ltb t k) (is_sick sickOnes t) (sick_at layer t) (content (over bytes s b) t) []) (over_whole bytes b s lt l)
-    ∙ replaced_at (ltb t (whole bytes)) (is_sick sickOnes t) (eqb t s) (sick_at layer t) b (content bytes t) (content (over bytes s b) t)
-    (λ q. (ap (λ (x : ℕ). ltb x (whole bytes)) (eqb-true t s q) ∙ w.0, ap (is_sick sickOnes) (eqb-true t s q) ∙ w.1)) (over_at bytes b s t h l)
+    ap (λ (x : List ℕ). image_sector layer sick_ones x [] t) e
+    ∙ ap (λ (k : ℕ). sector_of (ltb t k) (is_sick sick_ones t) (sick_at layer t) (content (over bytes s b) t) []) (over_whole bytes b s lt l)
+    ∙ replaced_at (ltb t (whole bytes)) (is_sick sick_ones t) (eqb t s) (sick_at layer t) b (content bytes t) (content (over bytes s b) t)
+    (λ q. (ap (λ (x : ℕ). ltb x (whole bytes)) (eqb-true t s q) ∙ w.0, ap (is_sick sick_ones) (eqb-true t s q) ∙ w.1)) (over_at bytes b s t h l)
 
 kept_replaced : (e : Bool) (b : List ℕ) (x : List ℕ) (t : Sector) → (e ≡ true → t ≡ held [] x) → Kept (cond e (added b t) t) (cond e (held [] b) t)
 kept_replaced false b x t h = kept_refl t
@@ -51,18 +51,18 @@ held_at false bad f x h = absurd (both_ways false refl h.0)
 held_at true true f x h = absurd (both_ways true h.1 refl)
 held_at true false f x h = refl
 
-pub plain_writes : (layer : ℕ) (sickOnes : List (Option ℕ)) (bytes bytes' b : List ℕ) (s : ℕ) → standing layer (image_meaning layer sickOnes bytes []) s ≡ None → length b ≡ 512 → bytes' ≡ over bytes s b
-    → Writes layer (image_meaning layer sickOnes bytes []) s b (Ok tt) (image_meaning layer sickOnes bytes' [])
-plain_writes layer sickOnes bytes bytes' b s n l e =
-    let w = stands_well layer sickOnes bytes [] s n in
-    let at = image_sector layer sickOnes bytes [] in
-    writes_went layer s (image_meaning layer sickOnes bytes []) (image_meaning layer sickOnes bytes' []) b (Ok tt) n
+pub plain_writes : (layer : ℕ) (sick_ones : List (Option ℕ)) (bytes bytes' b : List ℕ) (s : ℕ) → standing layer (image_meaning layer sick_ones bytes []) s ≡ None → length b ≡ 512 → bytes' ≡ over bytes s b
+    → Writes layer (image_meaning layer sick_ones bytes []) s b (Ok tt) (image_meaning layer sick_ones bytes' [])
+plain_writes layer sick_ones bytes bytes' b s n l e =
+    let w = stands_well layer sick_ones bytes [] s n in
+    let at = image_sector layer sick_ones bytes [] in
+    writes_went layer s (image_meaning layer sick_ones bytes []) (image_meaning layer sick_ones bytes' []) b (Ok tt) n
     (record {
       size = ap whole e ∙ over_whole bytes b s (ltb-true _ _ w.0) l;
-      so = λ t. subst (λ (x : Sector). Kept (written s b at t) x) (sym (plain_lists layer sickOnes bytes bytes' b s n l e t))
+      so = λ t. subst (λ (x : Sector). Kept (written s b at t) x) (sym (plain_lists layer sick_ones bytes bytes' b s n l e t))
           (kept_replaced (eqb t s) b (content bytes t) (at t)
-          (λ q. held_at (ltb t (whole bytes)) (is_sick sickOnes t) (sick_at layer t) (content bytes t)
-          (ap (λ (x : ℕ). ltb x (whole bytes)) (eqb-true t s q) ∙ w.0, ap (is_sick sickOnes) (eqb-true t s q) ∙ w.1)));
+          (λ q. held_at (ltb t (whole bytes)) (is_sick sick_ones t) (sick_at layer t) (content bytes t)
+          (ap (λ (x : ℕ). ltb x (whole bytes)) (eqb-true t s q) ∙ w.0, ap (is_sick sick_ones) (eqb-true t s q) ∙ w.1)));
     })
 
 chosen_at : (k : ℕ) (inside bad : Bool) (f : Fault) (x : List ℕ) → sector_of inside bad f x [] ≡ chosen k (sector_of inside bad f x [])
@@ -71,7 +71,7 @@ chosen_at k true true f x = refl
 chosen_at k true false f x = refl
 
 -- a cut changes nothing
-pub plain_cut : (layer : ℕ) (plan : List ℕ) (sickOnes : List (Option ℕ)) (bytes : List ℕ) → image_meaning layer sickOnes bytes [] ≡ cut_by plan (image_meaning layer sickOnes bytes [])
-plain_cut layer plan sickOnes bytes =
+pub plain_cut : (layer : ℕ) (plan : List ℕ) (sick_ones : List (Option ℕ)) (bytes : List ℕ) → image_meaning layer sick_ones bytes [] ≡ cut_by plan (image_meaning layer sick_ones bytes [])
+plain_cut layer plan sick_ones bytes =
     ap (λ (f : ℕ → Sector). record { size = whole bytes; power = On; sector = f })
-    (fun_ext (λ s. chosen_at (get_or plan s 0) (ltb s (whole bytes)) (is_sick sickOnes s) (sick_at layer s) (content bytes s)))
+    (fun_ext (λ s. chosen_at (get_or plan s 0) (ltb s (whole bytes)) (is_sick sick_ones s) (sick_at layer s) (content bytes s)))

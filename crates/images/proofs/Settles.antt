@@ -37,13 +37,13 @@ newest_at false bad f x b xs h e = absurd (both_ways false refl h.0)
 newest_at true true f x b xs h e = absurd (both_ways true h.1 refl)
 newest_at true false f x b xs h e = e
 
-pub queued_newest : (layer : ℕ) (sickOnes : List (Option ℕ)) (bytes buffer buffer' : List ℕ) (queue : List WaitingWrite) (s : ℕ) → standing layer (image_meaning layer sickOnes bytes queue) s ≡ None
+pub queued_newest : (layer : ℕ) (sick_ones : List (Option ℕ)) (bytes buffer buffer' : List ℕ) (queue : List WaitingWrite) (s : ℕ) → standing layer (image_meaning layer sick_ones bytes queue) s ≡ None
     → (length (waiting_for s queue) ≡ 0 → buffer' ≡ content bytes s)
     → (0 < length (waiting_for s queue) → buffer' ≡ get_or (waiting_for s queue) (length (waiting_for s queue) - 1) buffer)
-    → buffer' ≡ newest (image_sector layer sickOnes bytes queue s)
-queued_newest layer sickOnes bytes buffer buffer' queue s n none some =
+    → buffer' ≡ newest (image_sector layer sick_ones bytes queue s)
+queued_newest layer sick_ones bytes buffer buffer' queue s n none some =
     let xs = waiting_for s queue in
-    newest_at (ltb s (whole bytes)) (is_sick sickOnes s) (sick_at layer s) (content bytes s) buffer' xs (stands_well layer sickOnes bytes queue s n)
+    newest_at (ltb s (whole bytes)) (is_sick sick_ones s) (sick_at layer s) (content bytes s) buffer' xs (stands_well layer sick_ones bytes queue s n)
     (split (ltb 0 (length xs))
     (λ e. let h : 0 < length xs = ltb-true _ _ e in some h ∙ newest_listed (content bytes s) buffer xs h)
     (λ e. let k : length xs ≤ 0 = ltb-false _ _ e in let h : length xs ≡ 0 = omega arith in none h ∙ newest_only (content bytes s) xs h))
@@ -81,13 +81,13 @@ settle_content bytes w queue t l i =
     (λ e. let ge : whole bytes ≤ w.sector = ltb-false _ _ e in let ne : ¬ (t ≡ w.sector) = (λ z. omega arith) in
     ap (λ (b : Bool). content (cond b (over bytes w.sector w.content) bytes) t) e ∙ sym (ap (λ (b : Bool). cond b w.content (content bytes t)) (ne_eqb t w.sector ne)))
 
-settle_lists : (layer : ℕ) (sickOnes : List (Option ℕ)) (bytes : List ℕ) (queue : List WaitingWrite) (t : ℕ) → all_full queue ≡ true
-    → image_sector layer sickOnes (settle_oldest bytes queue) (without_oldest queue) t ≡ settled_oldest queue (image_sector layer sickOnes bytes queue) t
-settle_lists layer sickOnes bytes [] t h = refl
-settle_lists layer sickOnes bytes (w ∷ queue) t h =
-    ap (λ (n : ℕ). sector_of (ltb t n) (is_sick sickOnes t) (sick_at layer t) (content (settle_oldest bytes (w ∷ queue)) t) (waiting_for t queue))
+settle_lists : (layer : ℕ) (sick_ones : List (Option ℕ)) (bytes : List ℕ) (queue : List WaitingWrite) (t : ℕ) → all_full queue ≡ true
+    → image_sector layer sick_ones (settle_oldest bytes queue) (without_oldest queue) t ≡ settled_oldest queue (image_sector layer sick_ones bytes queue) t
+settle_lists layer sick_ones bytes [] t h = refl
+settle_lists layer sick_ones bytes (w ∷ queue) t h =
+    ap (λ (n : ℕ). sector_of (ltb t n) (is_sick sick_ones t) (sick_at layer t) (content (settle_oldest bytes (w ∷ queue)) t) (waiting_for t queue))
     (whole_same bytes (settle_oldest bytes (w ∷ queue)) (settle_length bytes (w ∷ queue) h))
-    ∙ settle_at (ltb t (whole bytes)) (is_sick sickOnes t) (eqb t w.sector) (sick_at layer t) w.content (content bytes t) (content (settle_oldest bytes (w ∷ queue)) t) (waiting_for t queue)
+    ∙ settle_at (ltb t (whole bytes)) (is_sick sick_ones t) (eqb t w.sector) (sick_at layer t) w.content (content bytes t) (content (settle_oldest bytes (w ∷ queue)) t) (waiting_for t queue)
     (settle_content bytes w queue t (full_first w queue h))
 
 -- adding a write
@@ -98,11 +98,11 @@ add_at false bad true f b c xs h = absurd (both_ways false refl (h refl))
 add_at true true true f b c xs h = refl
 add_at true false true f b c xs h = listed_more c xs b
 
-add_lists : (layer : ℕ) (sickOnes : List (Option ℕ)) (bytes : List ℕ) (queue : List WaitingWrite) (w : WaitingWrite) (t : ℕ) → w.sector < whole bytes
-    → image_sector layer sickOnes bytes (queue ++ (w ∷ [])) t ≡ written w.sector w.content (image_sector layer sickOnes bytes queue) t
-add_lists layer sickOnes bytes queue w t lt =
-    ap (sector_of (ltb t (whole bytes)) (is_sick sickOnes t) (sick_at layer t) (content bytes t)) (waiting_more t queue w)
-    ∙ add_at (ltb t (whole bytes)) (is_sick sickOnes t) (eqb t w.sector) (sick_at layer t) w.content (content bytes t) (waiting_for t queue)
+add_lists : (layer : ℕ) (sick_ones : List (Option ℕ)) (bytes : List ℕ) (queue : List WaitingWrite) (w : WaitingWrite) (t : ℕ) → w.sector < whole bytes
+    → image_sector layer sick_ones bytes (queue ++ (w ∷ [])) t ≡ written w.sector w.content (image_sector layer sick_ones bytes queue) t
+add_lists layer sick_ones bytes queue w t lt =
+    ap (sector_of (ltb t (whole bytes)) (is_sick sick_ones t) (sick_at layer t) (content bytes t)) (waiting_more t queue w)
+    ∙ add_at (ltb t (whole bytes)) (is_sick sick_ones t) (eqb t w.sector) (sick_at layer t) w.content (content bytes t) (waiting_for t queue)
     (λ e. let z : t ≡ w.sector = eqb-true _ _ e in lt-ltb t (whole bytes) (omega arith))
 
 -- losing the oldest keeps the newest
@@ -136,10 +136,10 @@ kept_written true b x y h = kept_added b x y h
 kept_written false b x y h = h
 
 -- a write: room is made, and then it is added
-room_at : (e : Bool) (layer : ℕ) (sickOnes : List (Option ℕ)) (bytes : List ℕ) (queue : List WaitingWrite) (t : ℕ) → all_full queue ≡ true
-    → image_sector layer sickOnes (cond e bytes (settle_oldest bytes queue)) (cond e queue (without_oldest queue)) t ≡ cond e (image_sector layer sickOnes bytes queue t) (settled_oldest queue (image_sector layer sickOnes bytes queue) t)
-room_at true layer sickOnes bytes queue t h = refl
-room_at false layer sickOnes bytes queue t h = settle_lists layer sickOnes bytes queue t h
+room_at : (e : Bool) (layer : ℕ) (sick_ones : List (Option ℕ)) (bytes : List ℕ) (queue : List WaitingWrite) (t : ℕ) → all_full queue ≡ true
+    → image_sector layer sick_ones (cond e bytes (settle_oldest bytes queue)) (cond e queue (without_oldest queue)) t ≡ cond e (image_sector layer sick_ones bytes queue t) (settled_oldest queue (image_sector layer sick_ones bytes queue) t)
+room_at true layer sick_ones bytes queue t h = refl
+room_at false layer sick_ones bytes queue t h = settle_lists layer sick_ones bytes queue t h
 
 room_length : (e : Bool) (bytes : List ℕ) (queue : List WaitingWrite) → all_full queue ≡ true → length (cond e bytes (settle_oldest bytes queue)) ≡ length bytes
 room_length true bytes queue h = refl
@@ -148,25 +148,25 @@ room_length false bytes queue h = settle_length bytes queue h
 room_whole : (bytes : List ℕ) (queue : List WaitingWrite) → all_full queue ≡ true → whole (room_bytes bytes queue) ≡ whole bytes
 room_whole bytes queue h = whole_same bytes (room_bytes bytes queue) (room_length (ltb (length queue) 16) bytes queue h)
 
-pub write_lists : (layer : ℕ) (sickOnes : List (Option ℕ)) (bytes bytes' : List ℕ) (queue queue' : List WaitingWrite) (w : WaitingWrite) → all_full queue ≡ true
-    → standing layer (image_meaning layer sickOnes bytes queue) w.sector ≡ None → bytes' ≡ room_bytes bytes queue → queue' ≡ room_queue queue ++ (w ∷ [])
-    → (t : ℕ) → image_sector layer sickOnes bytes' queue' t ≡ written w.sector w.content (room_sectors queue (image_sector layer sickOnes bytes queue)) t
-write_lists layer sickOnes bytes bytes' queue queue' w h n eb eq t =
-    let lt : w.sector < whole bytes = ltb-true _ _ (stands_well layer sickOnes bytes queue w.sector n).0 in
+pub write_lists : (layer : ℕ) (sick_ones : List (Option ℕ)) (bytes bytes' : List ℕ) (queue queue' : List WaitingWrite) (w : WaitingWrite) → all_full queue ≡ true
+    → standing layer (image_meaning layer sick_ones bytes queue) w.sector ≡ None → bytes' ≡ room_bytes bytes queue → queue' ≡ room_queue queue ++ (w ∷ [])
+    → (t : ℕ) → image_sector layer sick_ones bytes' queue' t ≡ written w.sector w.content (room_sectors queue (image_sector layer sick_ones bytes queue)) t
+write_lists layer sick_ones bytes bytes' queue queue' w h n eb eq t =
+    let lt : w.sector < whole bytes = ltb-true _ _ (stands_well layer sick_ones bytes queue w.sector n).0 in
     let lt2 : w.sector < whole (room_bytes bytes queue) = subst (λ (n : ℕ). w.sector < n) (sym (room_whole bytes queue h)) lt in
-    ap (λ (x : List ℕ). image_sector layer sickOnes x queue' t) eb ∙ ap (λ (x : List WaitingWrite). image_sector layer sickOnes (room_bytes bytes queue) x t) eq
-    ∙ add_lists layer sickOnes (room_bytes bytes queue) (room_queue queue) w t lt2
-    ∙ ap (λ (x : Sector). cond (eqb t w.sector) (added w.content x) x) (room_at (ltb (length queue) 16) layer sickOnes bytes queue t h)
+    ap (λ (x : List ℕ). image_sector layer sick_ones x queue' t) eb ∙ ap (λ (x : List WaitingWrite). image_sector layer sick_ones (room_bytes bytes queue) x t) eq
+    ∙ add_lists layer sick_ones (room_bytes bytes queue) (room_queue queue) w t lt2
+    ∙ ap (λ (x : Sector). cond (eqb t w.sector) (added w.content x) x) (room_at (ltb (length queue) 16) layer sick_ones bytes queue t h)
 
-pub write_writes : (layer : ℕ) (sickOnes : List (Option ℕ)) (bytes bytes' : List ℕ) (queue queue' : List WaitingWrite) (w : WaitingWrite) → all_full queue ≡ true
-    → standing layer (image_meaning layer sickOnes bytes queue) w.sector ≡ None → bytes' ≡ room_bytes bytes queue → queue' ≡ room_queue queue ++ (w ∷ [])
-    → Writes layer (image_meaning layer sickOnes bytes queue) w.sector w.content (Ok tt) (image_meaning layer sickOnes bytes' queue')
-write_writes layer sickOnes bytes bytes' queue queue' w h n eb eq =
-    let at = image_sector layer sickOnes bytes queue in
-    writes_went layer w.sector (image_meaning layer sickOnes bytes queue) (image_meaning layer sickOnes bytes' queue') w.content (Ok tt) n
+pub write_writes : (layer : ℕ) (sick_ones : List (Option ℕ)) (bytes bytes' : List ℕ) (queue queue' : List WaitingWrite) (w : WaitingWrite) → all_full queue ≡ true
+    → standing layer (image_meaning layer sick_ones bytes queue) w.sector ≡ None → bytes' ≡ room_bytes bytes queue → queue' ≡ room_queue queue ++ (w ∷ [])
+    → Writes layer (image_meaning layer sick_ones bytes queue) w.sector w.content (Ok tt) (image_meaning layer sick_ones bytes' queue')
+write_writes layer sick_ones bytes bytes' queue queue' w h n eb eq =
+    let at = image_sector layer sick_ones bytes queue in
+    writes_went layer w.sector (image_meaning layer sick_ones bytes queue) (image_meaning layer sick_ones bytes' queue') w.content (Ok tt) n
     (record {
       size = ap whole eb ∙ room_whole bytes queue h;
-      so = λ t. subst (λ (x : Sector). Kept (written w.sector w.content at t) x) (sym (write_lists layer sickOnes bytes bytes' queue queue' w h n eb eq t))
+      so = λ t. subst (λ (x : Sector). Kept (written w.sector w.content at t) x) (sym (write_lists layer sick_ones bytes bytes' queue queue' w h n eb eq t))
           (kept_written (eqb t w.sector) w.content (at t) (room_sectors queue at t) (kept_room queue at t));
     })
 
@@ -189,25 +189,25 @@ settled_cond : (e : Bool) (t : Sector) → settled (cond e (without_first t) t) 
 settled_cond true t = settled_first t
 settled_cond false t = refl
 
-all_lists : (layer : ℕ) (sickOnes : List (Option ℕ)) (bytes : List ℕ) (queue : List WaitingWrite) (t : ℕ) → all_full queue ≡ true
-    → image_sector layer sickOnes (settle_all bytes queue) [] t ≡ settled (image_sector layer sickOnes bytes queue t)
-all_lists layer sickOnes bytes [] t h = settled_at (ltb t (whole bytes)) (is_sick sickOnes t) (sick_at layer t) (content bytes t)
-all_lists layer sickOnes bytes (w ∷ queue) t h =
-    all_lists layer sickOnes (settle_oldest bytes (w ∷ queue)) queue t (full_rest w queue h)
-    ∙ ap settled (settle_lists layer sickOnes bytes (w ∷ queue) t h)
-    ∙ settled_cond (eqb t w.sector) (image_sector layer sickOnes bytes (w ∷ queue) t)
+all_lists : (layer : ℕ) (sick_ones : List (Option ℕ)) (bytes : List ℕ) (queue : List WaitingWrite) (t : ℕ) → all_full queue ≡ true
+    → image_sector layer sick_ones (settle_all bytes queue) [] t ≡ settled (image_sector layer sick_ones bytes queue t)
+all_lists layer sick_ones bytes [] t h = settled_at (ltb t (whole bytes)) (is_sick sick_ones t) (sick_at layer t) (content bytes t)
+all_lists layer sick_ones bytes (w ∷ queue) t h =
+    all_lists layer sick_ones (settle_oldest bytes (w ∷ queue)) queue t (full_rest w queue h)
+    ∙ ap settled (settle_lists layer sick_ones bytes (w ∷ queue) t h)
+    ∙ settled_cond (eqb t w.sector) (image_sector layer sick_ones bytes (w ∷ queue) t)
 
-pub flush_lists : (layer : ℕ) (sickOnes : List (Option ℕ)) (bytes bytes' : List ℕ) (queue queue' : List WaitingWrite) → all_full queue ≡ true → bytes' ≡ settle_all bytes queue → queue' ≡ []
-    → (t : ℕ) → image_sector layer sickOnes bytes' queue' t ≡ settled (image_sector layer sickOnes bytes queue t)
-flush_lists layer sickOnes bytes bytes' queue queue' h eb eq t =
-    ap (λ (x : List ℕ). image_sector layer sickOnes x queue' t) eb
-    ∙ ap (λ (x : List WaitingWrite). image_sector layer sickOnes (settle_all bytes queue) x t) eq ∙ all_lists layer sickOnes bytes queue t h
+pub flush_lists : (layer : ℕ) (sick_ones : List (Option ℕ)) (bytes bytes' : List ℕ) (queue queue' : List WaitingWrite) → all_full queue ≡ true → bytes' ≡ settle_all bytes queue → queue' ≡ []
+    → (t : ℕ) → image_sector layer sick_ones bytes' queue' t ≡ settled (image_sector layer sick_ones bytes queue t)
+flush_lists layer sick_ones bytes bytes' queue queue' h eb eq t =
+    ap (λ (x : List ℕ). image_sector layer sick_ones x queue' t) eb
+    ∙ ap (λ (x : List WaitingWrite). image_sector layer sick_ones (settle_all bytes queue) x t) eq ∙ all_lists layer sick_ones bytes queue t h
 
-pub flush_flushes : (layer : ℕ) (sickOnes : List (Option ℕ)) (bytes bytes' : List ℕ) (queue queue' : List WaitingWrite) → all_full queue ≡ true → bytes' ≡ settle_all bytes queue → queue' ≡ []
-    → Flushes (image_meaning layer sickOnes bytes queue) (Ok tt) (image_meaning layer sickOnes bytes' queue')
-flush_flushes layer sickOnes bytes bytes' queue queue' h eb eq =
-    flushes_went (image_meaning layer sickOnes bytes queue) (image_meaning layer sickOnes bytes' queue') (Ok tt) refl
-    (record { size = ap whole eb ∙ whole_same bytes (settle_all bytes queue) (all_length bytes queue h); so = flush_lists layer sickOnes bytes bytes' queue queue' h eb eq })
+pub flush_flushes : (layer : ℕ) (sick_ones : List (Option ℕ)) (bytes bytes' : List ℕ) (queue queue' : List WaitingWrite) → all_full queue ≡ true → bytes' ≡ settle_all bytes queue → queue' ≡ []
+    → Flushes (image_meaning layer sick_ones bytes queue) (Ok tt) (image_meaning layer sick_ones bytes' queue')
+flush_flushes layer sick_ones bytes bytes' queue queue' h eb eq =
+    flushes_went (image_meaning layer sick_ones bytes queue) (image_meaning layer sick_ones bytes' queue') (Ok tt) refl
+    (record { size = ap whole eb ∙ whole_same bytes (settle_all bytes queue) (all_length bytes queue h); so = flush_lists layer sick_ones bytes bytes' queue queue' h eb eq })
 
 pub none_left : (queue : List WaitingWrite) → length queue ≤ 0 → queue ≡ []
 none_left [] h = refl

@@ -28,8 +28,8 @@ sector_of inside is_sick f x xs = cond inside (cond is_sick (sick f) (listed x x
 
 -- sector s of an image
 abbrev pub image_sector : ℕ → List (Option ℕ) → List ℕ → List WaitingWrite → ℕ → Sector
-image_sector layer sickOnes bytes queue s = sector_of (nat_lt s (whole bytes)) (is_sick sickOnes s) (sick_at layer s) (content bytes s) (waiting_for s queue)
+image_sector layer sick_ones bytes queue s = sector_of (nat_lt s (whole bytes)) (is_sick sick_ones s) (sick_at layer s) (content bytes s) (waiting_for s queue)
 
 -- an image: its power is always on
 abbrev pub image_meaning : ℕ → List (Option ℕ) → List ℕ → List WaitingWrite → Meaning
-image_meaning layer sickOnes bytes queue = record { size = whole bytes; power = On; sector = image_sector layer sickOnes bytes queue }
+image_meaning layer sick_ones bytes queue = record { size = whole bytes; power = On; sector = image_sector layer sick_ones bytes queue }

@@ -60,9 +60,9 @@ sector_lawful : (inside b : Bool) (layer s : ℕ) (x : List ℕ) (xs : List (Lis
 sector_lawful true b layer s x xs e h = long_lawful b layer s (listed x xs) h (listed_held x xs)
 sector_lawful false b layer s x xs e h = absurd (both_ways false refl e)
 
-pub image_lawful : (layer : ℕ) (sickOnes : List (Option ℕ)) (bytes : List ℕ) (queue : List WaitingWrite) → all_full queue ≡ true → Lawful (image_meaning layer sickOnes bytes queue)
-image_lawful layer sickOnes bytes queue h = record {
+pub image_lawful : (layer : ℕ) (sick_ones : List (Option ℕ)) (bytes : List ℕ) (queue : List WaitingWrite) → all_full queue ≡ true → Lawful (image_meaning layer sick_ones bytes queue)
+image_lawful layer sick_ones bytes queue h = record {
   size = omega arith;
   power = tt;
-  each = λ s lt. sector_lawful (nat_lt s (whole bytes)) (is_sick sickOnes s) layer s (content bytes s) (waiting_for s queue) (lt-ltb s (whole bytes) lt) (listed_long (content bytes s) s queue (content_length bytes s lt) h);
+  each = λ s lt. sector_lawful (nat_lt s (whole bytes)) (is_sick sick_ones s) layer s (content bytes s) (waiting_for s queue) (lt-ltb s (whole bytes) lt) (listed_long (content bytes s) s queue (content_length bytes s lt) h);
 }

@@ -1,7 +1,7 @@
 -- What a plain image means, and what its calls do, exactly.
 use Rattle.std.specs.Prelude.{◌≡◌, ℕ, cond, List, [], is_ok, Ok, Option, ◌==◌, refl}
 use Rattle.std.specs.Borrow.{MutBor}
-use Rattle.device.specs.declared.fault.Layer.TheVariants.{PlainImage as plainLayer}
+use Rattle.device.specs.declared.fault.Layer.TheVariants.{PlainImage as PlainLayer}
 use Rattle.device.specs.declared.fault.Power.TheVariants.{On}
 use Rattle.device.specs.Faults.{layer_number}
 use Rattle.device.specs.Meaning.{Sector, held, Meaning, Lawful, newest}
@@ -13,7 +13,7 @@ use Rattle.images.specs.Lawful.{image_lawful}
 
 -- a plain image's number as a layer
 abbrev pub plain_number : ℕ
-plain_number = layer_number plainLayer
+plain_number = layer_number PlainLayer
 
 -- a plain image: no write ever waits
 abbrev pub plain_meaning : PlainImage → Meaning
@@ -24,9 +24,9 @@ abbrev pub plain_lawful : (p : PlainImage) → Lawful (plain_meaning p)
 plain_lawful p = image_lawful plain_number p.sick p.bytes.now [] refl
 
 -- p is made over lent bytes: the meaning, the sick sectors, the bytes and who lent them
-pub record PlainMade (sickOnes : List (Option ℕ)) (lent : MutBor (List ℕ)) (p : PlainImage) : Type 0 where
-  pub meaning : plain_meaning p ≡ image_meaning plain_number sickOnes lent.now []
-  pub sick : p.sick ≡ sickOnes
+pub record PlainMade (sick_ones : List (Option ℕ)) (lent : MutBor (List ℕ)) (p : PlainImage) : Type 0 where
+  pub meaning : plain_meaning p ≡ image_meaning plain_number sick_ones lent.now []
+  pub sick : p.sick ≡ sick_ones
   pub bytes : p.bytes.now ≡ lent.now
   pub lender : p.bytes.ghost_name ≡ lent.ghost_name
 

@@ -1,7 +1,7 @@
 -- What a queued image means, and what its calls do, exactly.
 use Rattle.std.specs.Prelude.{◌≡◌, ℕ, cond, List, [], ◌∷◌, ◌++◌, length, is_ok, Ok, vec_items, Option}
 use Rattle.std.specs.Borrow.{MutBor}
-use Rattle.device.specs.declared.fault.Layer.TheVariants.{QueuedImage as queuedLayer}
+use Rattle.device.specs.declared.fault.Layer.TheVariants.{QueuedImage as QueuedLayer}
 use Rattle.device.specs.declared.fault.Power.TheVariants.{On}
 use Rattle.device.specs.Faults.{layer_number}
 use Rattle.device.specs.Meaning.{Sector, Meaning, Lawful, newest}
@@ -16,7 +16,7 @@ use Rattle.images.specs.Queue.{settle_all, room_queue, room_bytes, room_sectors,
 
 -- a queued image's number as a layer
 abbrev pub queued_number : ℕ
-queued_number = layer_number queuedLayer
+queued_number = layer_number QueuedLayer
 
 -- the writes that wait, oldest first
 abbrev pub waiting : QueuedImage → List WaitingWrite
@@ -31,10 +31,10 @@ abbrev pub queued_lawful : (p : QueuedImage) → Lawful (queued_meaning p)
 queued_lawful p = image_lawful queued_number p.sick p.bytes.now (waiting p) p.queue.full
 
 -- p is made over lent bytes: the meaning, that nothing waits, the sick sectors, the bytes and who lent them
-pub record QueuedMade (sickOnes : List (Option ℕ)) (lent : MutBor (List ℕ)) (p : QueuedImage) : Type 0 where
-  pub meaning : queued_meaning p ≡ image_meaning queued_number sickOnes lent.now []
+pub record QueuedMade (sick_ones : List (Option ℕ)) (lent : MutBor (List ℕ)) (p : QueuedImage) : Type 0 where
+  pub meaning : queued_meaning p ≡ image_meaning queued_number sick_ones lent.now []
   pub queue : waiting p ≡ []
-  pub sick : p.sick ≡ sickOnes
+  pub sick : p.sick ≡ sick_ones
   pub bytes : p.bytes.now ≡ lent.now
   pub lender : p.bytes.ghost_name ≡ lent.ghost_name
 

@@ -19,10 +19,10 @@ use Rattle.layers.proofs.Eithers.{either_worn, either_kept, either_cut, either_s
 both_off : (p q : Power) (f : Fault) → (p ≡ Off f) ⊎ (q ≡ Off f) → (g : Fault) × (both_power p q ≡ Off g)
 both_off (Off g) q f e = (raised g, refl)
 both_off On (Off g) f e = (raised g, refl)
-both_off On On f e = absurd (⊎_elim (on-off f) (on-off f) e)
+both_off On On f e = absurd (⊎_elim (on_off f) (on_off f) e)
   where
-    on-off : (f : Fault) → On ≡ Off f → ⊥
-    on-off f e = let z : ◌≡◌ {A = ℕ} 0 1 = cc in omega arith
+    on_off : (f : Fault) → On ≡ Off f → ⊥
+    on_off f e = let z : ◌≡◌ {A = ℕ} 0 1 = cc in omega arith
 
 both_on : (p q : Power) → p ≡ On → q ≡ On → both_power p q ≡ On
 both_on p q e d = ap (λ (x : Power). both_power x q) e ∙ ap raised_power d
