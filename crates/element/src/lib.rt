@@ -42,9 +42,12 @@ pub trait Element: Copy {
         requires { length from.now ≡ width_of kind }
         ensures { result ≡ value from.now };
 
+    // each value has as many bytes as its kind fixes
     ghost wide: { (x : Self) → length (bytes x) ≡ width_of kind };
 
+    // the bytes of a lawful value are lawful and say it
     ghost told: { (x : Self) → lawful x ≡ true → (bytes_lawful kind (bytes x) ≡ true) × (value (bytes x) ≡ x) };
 
+    // lawful bytes are those of the lawful value that they say
     ghost only: { (bs : List ℕ) → Bytes bs → bytes_lawful kind bs ≡ true → (lawful (value bs) ≡ true) × (bytes (value bs) ≡ bs) };
 }

@@ -3,7 +3,6 @@ ghost use Rattle.std.specs.Prelude.{◌≡◌};
 ghost use Rattle.element.specs.Marks.{event_number, stamp_lawful, mark_lawful, mark_bytes, mark_of};
 ghost use Rattle.element.specs.declared.kind.Kind.TheVariants.{Mark as MarkKind};
 ghost use Rattle.element.specs.Stamps;
-ghost use Rattle.std.proofs.Common.{rules};
 
 use crate::Element;
 use crate::kind::Kind;
@@ -42,9 +41,9 @@ impl Element for Mark {
 
     ghost value = { mark_of };
 
-    ghost wide = { Prim.search rules };
+    ghost wide = { Stamps.wide };
 
-    ghost told = { Prim.search rules };
+    ghost told = { Stamps.told };
 
     ghost only = { Stamps.only };
 

@@ -2,7 +2,6 @@
 ghost use Rattle.element.specs.Sounds.{sample_lawful, sample_bytes, sample_of};
 ghost use Rattle.element.specs.declared.kind.Kind.TheVariants.{Sound};
 ghost use Rattle.element.specs.Samples;
-ghost use Rattle.std.proofs.Common.{rules};
 
 use crate::Element;
 use crate::kind::Kind;
@@ -16,9 +15,9 @@ impl Element for i16 {
 
     ghost value = { sample_of };
 
-    ghost wide = { Prim.search rules };
+    ghost wide = { Samples.wide };
 
-    ghost told = { Prim.search rules };
+    ghost told = { Samples.told };
 
     ghost only = { Samples.only };
 

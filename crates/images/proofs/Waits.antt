@@ -5,9 +5,9 @@ use Rattle.std.proofs.lemmas.List.{take_more}
 use Rattle.std.specs.List.{remove}
 use Rattle.device.specs.Meaning.{Sector, sick, held}
 use Rattle.device.specs.Calls.{added}
+use Rattle.std.proofs.Math.Bool.{and-eq-true_iff}
 use Rattle.images.specs.declared.queue.WaitingWrite.{WaitingWrite}
 use Rattle.images.specs.Full.{all_full}
-use Rattle.images.specs.Lawful.{and_first, and_second}
 use Rattle.images.specs.Image.{waiting_for, older, listed}
 
 older_added : (x b : List ℕ) (s : Sector) → older x (added b s) ≡ added b (older x s)
@@ -67,10 +67,10 @@ pub few_more : (queue queue' : List WaitingWrite) (w : WaitingWrite) → queue' 
 few_more queue queue' w e h = rw e (simp length-append (omega arith))
 
 pub full_first : (w : WaitingWrite) (queue : List WaitingWrite) → all_full (w ∷ queue) ≡ true → length w.content ≡ 512
-full_first w queue h = eqb-true _ _ (and_first _ _ h)
+full_first w queue h = eqb-true _ _ ((and-eq-true_iff (eqb (length w.content) 512) (all_full queue)).0 h).0
 
 pub full_rest : (w : WaitingWrite) (queue : List WaitingWrite) → all_full (w ∷ queue) ≡ true → all_full queue ≡ true
-full_rest w queue h = and_second (eqb (length w.content) 512) (all_full queue) h
+full_rest w queue h = ((and-eq-true_iff (eqb (length w.content) 512) (all_full queue)).0 h).1
 
 pub full_removed : (queue : List WaitingWrite) (i : ℕ) → all_full queue ≡ true → all_full (remove queue i) ≡ true
 full_removed [] zero h = refl

@@ -1,8 +1,9 @@
 -- What holds of every device holds of an image: the lemmas that the images' `ghost lawful` cites.
-use Rattle.std.specs.Prelude.{◌≡◌, ℕ, ◌<◌, Bool, true, false, cond, ◌&&◌, List, [], ◌∷◌, ◌++◌, length, Option, ◌==◌, ◌≢◌, nat_lt, refl}
+use Rattle.std.specs.Prelude.{◌≡◌, ℕ, ◌<◌, Bool, true, false, cond, List, [], ◌∷◌, ◌++◌, length, Option, ◌==◌, ◌≢◌, nat_lt, refl}
 use Rattle.std.proofs.Common.{◌∙◌, ap, ⊎_elim, arith, length-take, length-drop, eqb-true, lt-ltb}
 use mathlib.Core.List.Memᴰ
 use mathlib.Core.List.{Memᴰ}
+use Rattle.std.proofs.Math.Bool.{and-eq-true_iff}
 use Rattle.std.proofs.lemmas.Bool.{both_ways}
 use Rattle.device.specs.declared.fault.Fault.{Fault}
 use Rattle.device.specs.Faults.{sick_at}
@@ -21,45 +22,45 @@ abbrev Long : Sector → Type 0
 Long (sick f) = Unit {0}
 Long (held old new) = (c : List ℕ) → Memᴰ c (old ++ (new ∷ [])) → length c ≡ 512
 
+-- one more content of 512 bytes keeps each at 512
 older_long : (x : List ℕ) (t : Sector) → length x ≡ 512 → Long t → Long (older x t)
 older_long x (sick f) l h = tt
 older_long x (held old new) l h = λ c m. ⊎_elim (λ e. ap length e ∙ l) (h c) (Memᴰ.cases_cons m)
 
-pub and_first : (a b : Bool) → (a && b) ≡ true → a ≡ true
-and_first true b h = refl
-and_first false b h = h
-
-pub and_second : (a b : Bool) → (a && b) ≡ true → b ≡ true
-and_second true b h = h
-and_second false b h = absurd (both_ways false refl h)
-
+-- so does a write that may be of this sector or of another
 step_long : (e : Bool) (x y : List ℕ) (xs : List (List ℕ)) → length x ≡ 512 → Long (listed x xs) → Long (listed y xs) → Long (listed x (cond e (y ∷ xs) xs))
 step_long true x y xs l h k = older_long x (listed y xs) l k
 step_long false x y xs l h k = h
 
+-- a settled content and the writes that wait have 512 bytes each
 listed_long : (x : List ℕ) (s : ℕ) (queue : List WaitingWrite) → length x ≡ 512 → all_full queue ≡ true → Long (listed x (waiting_for s queue))
 listed_long x s [] l h = λ c m. ⊎_elim (λ e. ap length e ∙ l) (λ n. absurd (Memᴰ.not-nil n)) (Memᴰ.cases_cons m)
 listed_long x s (w ∷ queue) l h =
-    let k = and_second (length w.content == 512) (all_full queue) h in
-    step_long (s == w.sector) x w.content (waiting_for s queue) l (listed_long x s queue l k) (listed_long w.content s queue (eqb-true _ _ (and_first _ _ h)) k)
+    let (first, rest) = (and-eq-true_iff (length w.content == 512) (all_full queue)).0 h in
+    step_long (s == w.sector) x w.content (waiting_for s queue) l (listed_long x s queue l rest) (listed_long w.content s queue (eqb-true _ _ first) rest)
 
+-- one more content makes no sector sick
 older_held : (x : List ℕ) (t : Sector) → ((f : Fault) → t ≢ sick f) → (f : Fault) → older x t ≢ sick f
 older_held x (sick g) n f e = n g refl
 older_held x (held old new) n f e = let z : ◌≡◌ {A = ℕ} 0 1 = cc in omega arith
 
+-- a sector of contents is not sick
 listed_held : (x : List ℕ) (xs : List (List ℕ)) (f : Fault) → listed x xs ≢ sick f
 listed_held x [] f e = let z : ◌≡◌ {A = ℕ} 0 1 = cc in omega arith
 listed_held x (y ∷ ys) f e = older_held x (listed y ys) (listed_held y ys) f e
 
+-- a sector is lawful, sick by its name or with contents of 512 bytes
 long_lawful : (b : Bool) (layer s : ℕ) (t : Sector) → Long t → ((f : Fault) → t ≢ sick f) → LawfulSector (cond b (sick (sick_at layer s)) t)
 long_lawful true layer s t h n = refl
 long_lawful false layer s (sick f) h n = absurd (n f refl)
 long_lawful false layer s (held old new) h n = h
 
+-- a sector in range is lawful
 sector_lawful : (inside b : Bool) (layer s : ℕ) (x : List ℕ) (xs : List (List ℕ)) → inside ≡ true → Long (listed x xs) → LawfulSector (sector_of inside b (sick_at layer s) x xs)
 sector_lawful true b layer s x xs e h = long_lawful b layer s (listed x xs) h (listed_held x xs)
 sector_lawful false b layer s x xs e h = absurd (both_ways false refl e)
 
+-- an image is lawful, whatever its bytes, its sick sectors and its whole waiting writes
 pub image_lawful : (layer : ℕ) (sick_ones : List (Option ℕ)) (bytes : List ℕ) (queue : List WaitingWrite) → all_full queue ≡ true → Lawful (image_meaning layer sick_ones bytes queue)
 image_lawful layer sick_ones bytes queue h = record {
   size = omega arith;
