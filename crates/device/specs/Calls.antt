@@ -1,19 +1,13 @@
 -- What each call answers, and what it may do to a device.
-use Rattle.std.specs.Prelude.{◌≡◌, ℕ, cond, ◌⊎◌, List, [], ◌∷◌, ◌++◌, Some, None, Ok, Err, Option, Result, ◌==◌, nat_lt}
+use Rattle.std.specs.Prelude.{◌≡◌, ℕ, cond, ◌⊎◌, List, [], ◌∷◌, ◌++◌, Some, None, Ok, Err, Option, ◌==◌, nat_lt}
 use Rattle.device.specs.declared.fault.Fault.{Fault}
-use Rattle.device.specs.declared.fault.Power.{Power}
-use Rattle.device.specs.declared.fault.Power.TheVariants.{On, Off}
-use Rattle.device.specs.Faults.{out_of_range, raised}
+use Rattle.device.specs.Faults.{Answer, out_of_range}
 use Rattle.device.specs.Meaning.{Sector, sick, held, Meaning, newest}
 
--- a call is accepted, or answers a fault
-abbrev pub Answer : Type 0
-Answer = Result (Unit {0}) Fault
-
 -- the fault of power that is off
-abbrev pub power_fault : Power → Option Fault
-power_fault On = None
-power_fault (Off f) = Some f
+abbrev pub power_fault : Answer → Option Fault
+power_fault (Ok x) = None
+power_fault (Err f) = Some f
 
 -- the fault of a sick sector
 abbrev pub sick_fault : Sector → Option Fault
@@ -33,11 +27,6 @@ standing layer m s = cond (nat_lt s m.size) (first_fault (power_fault m.power) (
 abbrev pub answer_of : Option Fault → Answer
 answer_of None = Ok tt
 answer_of (Some f) = Err f
-
--- an answer seen from one layer further up
-abbrev pub raised_answer : Answer → Answer
-raised_answer (Ok x) = Ok x
-raised_answer (Err f) = Err (raised f)
 
 -- P where the call was accepted, Q of the fault that it answered
 abbrev pub ByAnswer : Answer → Type 0 → (Fault → Type 0) → Type 0
@@ -88,7 +77,7 @@ pub record Refused (f : Fault) (m : Meaning) (r : Answer) (n : Meaning) : Type 0
 
 -- power went off in the call, which answers the fault f; `at` has the sectors as the call would have left them
 pub record Failed (at : ℕ → Sector) (f : Fault) (n : Meaning) : Type 0 where
-  pub power : n.power ≡ Off f
+  pub power : n.power ≡ Err f
   pub each : (t : ℕ) → Worn (at t) (n.sector t)
 
 -- a call that nothing stood in the way of: accepted, and then Done, or power went off in it

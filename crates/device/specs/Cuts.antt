@@ -1,8 +1,7 @@
 -- What a power cut leaves.
-use Rattle.std.specs.Prelude.{◌≡◌, ℕ, ◌⊎◌, List, [], ◌∷◌, ◌++◌, length, replicate, slice_index, slice_index_or}
+use Rattle.std.specs.Prelude.{◌≡◌, ℕ, ◌⊎◌, List, [], ◌∷◌, ◌++◌, length, replicate, Ok, slice_index, slice_index_or}
 use mathlib.Core.List.{Memᴰ}
 use Rattle.sector.specs.Layout.{Sound}
-use Rattle.device.specs.declared.fault.Power.TheVariants.{On}
 use Rattle.device.specs.Meaning.{Sector, sick, held, Meaning}
 
 -- what may be left of a list: its only content; of a longer one any member, or 512 bytes that are not sound
@@ -19,7 +18,7 @@ CutSector (held old new) (held old' new') = (old' ≡ []) × Left old new new'
 -- a device before and after a cut
 pub record Cut (m n : Meaning) : Type 0 where
   pub size : n.size ≡ m.size
-  pub power : n.power ≡ On
+  pub power : n.power ≡ Ok tt
   pub each : (s : ℕ) → CutSector (m.sector s) (n.sector s)
 
 -- what choice c leaves of a sector of an image: member c of a longer list, oldest first, or zeros where there is none
@@ -30,7 +29,7 @@ chosen c (held (o ∷ old) new) = held [] (slice_index_or ((o ∷ old) ++ (new �
 
 -- what a plan leaves of an image: byte s is the choice for sector s, and a missing byte is 0
 abbrev pub cut_by : List ℕ → Meaning → Meaning
-cut_by plan m = record { size = m.size; power = On; sector = λ s. chosen (slice_index plan s) (m.sector s) }
+cut_by plan m = record { size = m.size; power = Ok tt; sector = λ s. chosen (slice_index plan s) (m.sector s) }
 
 -- devices, one by one, before and after a cut
 abbrev pub EachCut : List Meaning → List Meaning → Type 0

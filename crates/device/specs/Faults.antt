@@ -1,12 +1,10 @@
 -- Faults: their numbers, and how they go up through layers.
-use Rattle.std.specs.Prelude.{ℕ, ◌+◌, ◌-◌, ◌^◌, min, List, [], ◌∷◌}
+use Rattle.std.specs.Prelude.{ℕ, ◌+◌, ◌-◌, ◌^◌, min, List, [], ◌∷◌, Ok, Err, Result}
 use Rattle.device.specs.declared.fault.Cause.{Cause}
 use Rattle.device.specs.declared.fault.Cause.TheVariants.{OutOfRange, Sick, PowerLost}
 use Rattle.device.specs.declared.fault.Layer.{Layer}
 use Rattle.device.specs.declared.fault.Layer.TheVariants.{PlainImage, QueuedImage, Mirror, Fuse}
 use Rattle.device.specs.declared.fault.Fault.{Fault}
-use Rattle.device.specs.declared.fault.Power.{Power}
-use Rattle.device.specs.declared.fault.Power.TheVariants.{On, Off}
 
 -- the number that stands for a cause
 abbrev pub cause_number : Cause → ℕ
@@ -33,11 +31,19 @@ out_of_range layer s = record { cause = OutOfRange; sector = s; layer = layer; d
 abbrev pub sick_at : ℕ → ℕ → Fault
 sick_at layer s = record { cause = Sick; sector = s; layer = layer; depth = 0 }
 
+-- power is off at a layer
+abbrev pub power_lost : ℕ → Fault
+power_lost layer = record { cause = PowerLost; sector = 0; layer = layer; depth = 0 }
+
 -- a fault seen from one layer further up; the depth stops at the largest number
 abbrev pub raised : Fault → Fault
 raised f = record { cause = f.cause; sector = f.sector; layer = f.layer; depth = min (f.depth + 1) (2 ^ 32 - 1) }
 
--- power seen from one layer further up
-abbrev pub raised_power : Power → Power
-raised_power On = On
-raised_power (Off f) = Off (raised f)
+-- a call is accepted, or answers a fault; and power is on, or off with the fault that says so
+abbrev pub Answer : Type 0
+Answer = Result (Unit {0}) Fault
+
+-- an answer, or power, seen from one layer further up
+abbrev pub raised_answer : Answer → Answer
+raised_answer (Ok x) = Ok x
+raised_answer (Err f) = Err (raised f)

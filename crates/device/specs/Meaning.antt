@@ -1,11 +1,9 @@
 -- What a device means.
-use Rattle.std.specs.Prelude.{◌≡◌, ℕ, ◌<◌, ◌≤◌, List, [], ◌∷◌, ◌++◌, length}
+use Rattle.std.specs.Prelude.{◌≡◌, ℕ, ◌<◌, ◌≤◌, List, [], ◌∷◌, ◌++◌, length, Ok, Err}
 use mathlib.Core.List.{Memᴰ}
 use Rattle.device.specs.declared.fault.Cause.TheVariants.{Sick, PowerLost}
 use Rattle.device.specs.declared.fault.Fault.{Fault}
-use Rattle.device.specs.declared.fault.Power.{Power}
-use Rattle.device.specs.declared.fault.Power.TheVariants.{On, Off}
-use Rattle.device.specs.Faults.{raised}
+use Rattle.device.specs.Faults.{Answer, raised}
 
 -- a sector is sick, with its fault, or has older contents, oldest first, and a newest
 pub data Sector : Type 0 where
@@ -15,7 +13,7 @@ pub data Sector : Type 0 where
 -- a device: how many sectors it has, its power, and each sector
 pub record Meaning : Type 0 where
   pub size : ℕ
-  pub power : Power
+  pub power : Answer
   pub sector : ℕ → Sector
 
 -- the contents of a sector, newest last
@@ -34,9 +32,9 @@ raised_sector (sick f) = sick (raised f)
 raised_sector (held old new) = held old new
 
 -- power is on, or off with a fault that says so and names no sector
-abbrev pub LawfulPower : Power → Type 0
-LawfulPower On = Unit {0}
-LawfulPower (Off f) = (f.cause ≡ PowerLost) × (f.sector ≡ 0)
+abbrev pub LawfulPower : Answer → Type 0
+LawfulPower (Ok x) = Unit {0}
+LawfulPower (Err f) = (f.cause ≡ PowerLost) × (f.sector ≡ 0)
 
 -- a sick sector's fault says so, and each content has 512 bytes
 abbrev pub LawfulSector : Sector → Type 0

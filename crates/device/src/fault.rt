@@ -1,29 +1,24 @@
 // Faults and power: what stands in the way of a call, and where it arose.
 ghost use Rattle.std.specs.Prelude.{◌≡◌};
-ghost use Rattle.device.specs.Faults.{cause_number, layer_number, fault_numbers, out_of_range, sick_at, raised, raised_power};
-ghost use Rattle.device.specs.Calls.{raised_answer};
+ghost use Rattle.device.specs.Faults.{cause_number, layer_number, fault_numbers, out_of_range, sick_at, power_lost, raised, raised_answer};
 
 // Why a call is refused.
 #[derive(Clone, Copy, PartialEq, Eq, Debug)]
 pub enum Cause {
     // there is no such sector
-    OutOfRange,
+    OutOfRange = 1,
     // the sector can be neither read nor written
-    Sick,
+    Sick = 2,
     // the device has no power
-    PowerLost,
+    PowerLost = 3,
 }
 
-impl Cause {
-    // The number that stands for the cause.
-    pub fn number(self) -> u32
-        ensures { result ≡ cause_number self }
-    {
-        match self {
-            Cause::OutOfRange => 1,
-            Cause::Sick => 2,
-            Cause::PowerLost => 3,
-        }
+// The number that stands for the cause.
+impl From<Cause> for u32 {
+    ghost from_gives = { λ cause number. number ≡ cause_number cause };
+
+    fn from(cause: Cause) -> u32 {
+        cause as u32
     }
 }
 
@@ -36,12 +31,12 @@ pub enum Layer {
     Fuse = 4,
 }
 
-impl Layer {
-    // The number by which the layer names itself.
-    pub fn number(self) -> u32
-        ensures { result ≡ layer_number self }
-    {
-        self as u32
+// The number by which the layer names itself.
+impl From<Layer> for u32 {
+    ghost from_gives = { λ layer number. number ≡ layer_number layer };
+
+    fn from(layer: Layer) -> u32 {
+        layer as u32
     }
 }
 
@@ -56,28 +51,37 @@ pub struct Fault {
 }
 
 impl Fault {
-    // A sector that the layer does not have.
-    pub fn out_of_range(layer: u32, sector: u32) -> Fault
-        ensures { result ≡ out_of_range layer sector }
+    // A fault that arises at the layer itself.
+    fn arising(cause: Cause, layer: u32, sector: u32) -> Fault
+        ensures { result ≡ record { cause = cause; sector = sector; layer = layer; depth = 0 } }
     {
         Fault {
-            cause: Cause::OutOfRange,
+            cause,
             sector,
             layer,
             depth: 0,
         }
     }
 
+    // A sector that the layer does not have.
+    pub fn out_of_range(layer: u32, sector: u32) -> Fault
+        ensures { result ≡ out_of_range layer sector }
+    {
+        Fault::arising(Cause::OutOfRange, layer, sector)
+    }
+
     // A sick sector of the layer.
     pub fn sick(layer: u32, sector: u32) -> Fault
         ensures { result ≡ sick_at layer sector }
     {
-        Fault {
-            cause: Cause::Sick,
-            sector,
-            layer,
-            depth: 0,
-        }
+        Fault::arising(Cause::Sick, layer, sector)
+    }
+
+    // Power that is off at the layer.
+    pub fn power_lost(layer: u32) -> Fault
+        ensures { result ≡ power_lost layer }
+    {
+        Fault::arising(Cause::PowerLost, layer, 0)
     }
 
     // The fault as the next layer up tells it.
@@ -85,37 +89,18 @@ impl Fault {
         ensures { result ≡ raised self }
     {
         Fault {
-            cause: self.cause,
-            sector: self.sector,
-            layer: self.layer,
             depth: self.depth.saturating_add(1),
+            ..self
         }
-    }
-
-    // Cause, sector, layer and depth.
-    pub fn numbers(self) -> [u32; 4]
-        ensures { result ≡ fault_numbers self }
-    {
-        [self.cause.number(), self.sector, self.layer, self.depth]
     }
 }
 
-// Whether a device has power, or else the fault that says so.
-#[derive(Clone, Copy, PartialEq, Eq, Debug)]
-pub enum Power {
-    On,
-    Off(Fault),
-}
+// Cause, sector, layer and depth.
+impl From<Fault> for [u32; 4] {
+    ghost from_gives = { λ fault numbers. numbers ≡ fault_numbers fault };
 
-impl Power {
-    // Power as the next layer up tells it.
-    pub fn raised(self) -> Power
-        ensures { result ≡ raised_power self }
-    {
-        match self {
-            Power::On => Power::On,
-            Power::Off(fault) => Power::Off(fault.raised()),
-        }
+    fn from(fault: Fault) -> [u32; 4] {
+        [fault.cause.into(), fault.sector, fault.layer, fault.depth]
     }
 }
 
@@ -123,8 +108,5 @@ impl Power {
 pub fn raised(answer: Result<(), Fault>) -> Result<(), Fault>
     ensures { result ≡ raised_answer answer }
 {
-    match answer {
-        Ok(()) => Ok(()),
-        Err(fault) => Err(fault.raised()),
-    }
+    answer.map_err(Fault::raised)
 }

@@ -3,13 +3,14 @@
 #![tactic(auto)]
 
 ghost use Rattle.std.specs.Prelude.{◌≡◌, ℕ, List, ◌∷◌, map};
-ghost use Rattle.device.specs.Calls.{Answer, Reads, Writes, Flushes};
+ghost use Rattle.device.specs.Faults.{Answer};
+ghost use Rattle.device.specs.Calls.{Reads, Writes, Flushes};
 ghost use Rattle.device.specs.Cuts.{EachCut, cut_by};
 ghost use Rattle.device.specs.Meaning.{Meaning, Lawful};
 
 pub mod fault;
 
-pub use fault::{Cause, Fault, Layer, Power};
+pub use fault::{Cause, Fault, Layer};
 
 // A device, known by its meaning alone.
 pub trait Device {
@@ -18,9 +19,6 @@ pub trait Device {
 
     // the number by which the device names itself where a sector is out of its range
     ghost layer: { ℕ };
-
-    // what holds of every device
-    ghost lawful: { (d : Self) → Lawful (meaning d) };
 
     // exactly what a read did: the device before, the sector, the buffer before, the answer, the device after, the buffer after
     ghost fetched: { Self → ℕ → List ℕ → Answer → Self → List ℕ → Type 0 };
@@ -35,8 +33,8 @@ pub trait Device {
     fn size(&self) -> u32
         ensures { result ≡ (meaning self.now).size };
 
-    // Whether there is power.
-    fn power(&self) -> Power
+    // Whether there is power, or else the fault that says so.
+    fn power(&self) -> Result<(), Fault>
         ensures { result ≡ (meaning self.now).power };
 
     // Puts the sector's newest content into the buffer.
@@ -53,6 +51,9 @@ pub trait Device {
     fn flush(&mut self) -> Result<(), Fault>
         ensures meets { Flushes (meaning self.old) result (meaning self.new) }
         ensures exact { flushed self.old result self.new };
+
+    // what holds of every device
+    ghost lawful: { (d : Self) → Lawful (meaning d) };
 }
 
 // A device whose power can be cut.
