@@ -1,5 +1,5 @@
 -- Faults: their numbers, and how they go up through layers.
-use Rattle.std.specs.Prelude.{ℕ, ◌+◌, ◌-◌, ◌^◌, min, List, [], ◌∷◌, Ok, Err, Result}
+use Rattle.std.specs.Prelude.{ℕ, ◌+◌, ◌-◌, ◌^◌, min, cond, nat_lt, List, [], ◌∷◌, Ok, Err, Result}
 use Rattle.device.specs.declared.fault.Cause.{Cause}
 use Rattle.device.specs.declared.fault.Cause.TheVariants.{OutOfRange, Sick, PowerLost}
 use Rattle.device.specs.declared.fault.Layer.{Layer}
@@ -42,6 +42,10 @@ raised f = record { cause = f.cause; sector = f.sector; layer = f.layer; depth =
 -- a call is accepted, or answers a fault; and power is on, or off with the fault that says so
 abbrev pub Answer : Type 0
 Answer = Result (Unit {0}) Fault
+
+-- what a layer of so many sectors answers of one where nothing else stands in the way: it is out of range, or not
+abbrev pub in_range : ℕ → ℕ → ℕ → Answer
+in_range layer size s = cond (nat_lt s size) (Ok tt) (Err (out_of_range layer s))
 
 -- an answer, or power, seen from one layer further up
 abbrev pub raised_answer : Answer → Answer

@@ -1,6 +1,6 @@
 // Faults and power: what stands in the way of a call, and where it arose.
 ghost use Rattle.std.specs.Prelude.{◌≡◌};
-ghost use Rattle.device.specs.Faults.{cause_number, layer_number, fault_numbers, out_of_range, sick_at, power_lost, raised, raised_answer};
+ghost use Rattle.device.specs.Faults.{cause_number, layer_number, fault_numbers, out_of_range, sick_at, power_lost, in_range, raised, raised_answer};
 
 // Why a call is refused.
 #[derive(Clone, Copy, PartialEq, Eq, Debug)]
@@ -104,7 +104,18 @@ impl From<Fault> for [u32; 4] {
     }
 }
 
-// An answer as the next layer up tells it.
+// Whether a layer of so many sectors has this one.
+pub fn in_range(layer: u32, size: u32, sector: u32) -> Result<(), Fault>
+    ensures { result ≡ in_range layer size sector }
+{
+    if sector < size {
+        Ok(())
+    } else {
+        Err(Fault::out_of_range(layer, sector))
+    }
+}
+
+// An answer, or power, as the next layer up tells it.
 pub fn raised(answer: Result<(), Fault>) -> Result<(), Fault>
     ensures { result ≡ raised_answer answer }
 {

@@ -1,9 +1,8 @@
 -- What a cut leaves of a queued image.
-use Rattle.std.proofs.Common.{◌≡◌, ℕ, zero, suc, ◌+◌, ◌-◌, ◌*◌, ◌<◌, ◌≤◌, Bool, true, false, cond, eqb, ltb, List, [], ◌∷◌, length, get_or, replicate, None, Option, sym, refl, ap, ◌∙◌, arith, ltb-false, ltb-true, eqb-true}
+use Rattle.std.proofs.Common.{◌≡◌, ℕ, zero, suc, ◌+◌, ◌-◌, ◌*◌, ◌<◌, ◌≤◌, Bool, true, false, cond, eqb, ltb, List, [], ◌∷◌, length, get_or, replicate, None, Option, sym, refl, ap, ◌∙◌, arith, ltb-false, ltb-true, eqb-true, Ok}
 use mathlib.Core.Path.{fun_ext}
 use lib.ListN.{length-replicate}
 use Rattle.device.specs.declared.fault.Fault.{Fault}
-use Rattle.device.specs.declared.fault.Power.TheVariants.{On}
 use Rattle.device.specs.Faults.{sick_at}
 use Rattle.device.specs.Meaning.{Sector, sick, held, contents}
 use Rattle.device.specs.Calls.{sick_fault}
@@ -46,8 +45,8 @@ pub queued_cut : (layer : ℕ) (plan : List ℕ) (sick_ones : List (Option ℕ))
     → image_meaning layer sick_ones bytes' queue' ≡ cut_by plan (image_meaning layer sick_ones bytes queue)
 queued_cut layer plan sick_ones bytes bytes' queue queue' l e h =
     ap (image_meaning layer sick_ones bytes') e
-    ∙ ap (λ (n : ℕ). record { size = n; power = On; sector = λ t. sector_of (ltb t n) (is_sick sick_ones t) (sick_at layer t) (content bytes' t) [] }) (whole_same bytes bytes' l)
-    ∙ ap (λ (f : ℕ → Sector). record { size = whole bytes; power = On; sector = f })
+    ∙ ap (λ (n : ℕ). record { size = n; power = Ok tt; sector = λ t. sector_of (ltb t n) (is_sick sick_ones t) (sick_at layer t) (content bytes' t) [] }) (whole_same bytes bytes' l)
+    ∙ ap (λ (f : ℕ → Sector). record { size = whole bytes; power = Ok tt; sector = f })
     (fun_ext (λ t. cut_at (ltb t (whole bytes)) (is_sick sick_ones t) (sick_at layer t) (content bytes t) (content bytes' t) (get_or plan t 0) (waiting_for t queue) (h t)))
 
 -- one sector chosen: its bytes

@@ -3,7 +3,6 @@ use Rattle.std.proofs.Common.{◌≡◌, ℕ, ◌+◌, ◌*◌, ◌<◌, ◌≤�
 use mathlib.Core.Path.{fun_ext}
 use borrow.Author.Tests.{both_ways}
 use Rattle.device.specs.declared.fault.Fault.{Fault}
-use Rattle.device.specs.declared.fault.Power.TheVariants.{On}
 use Rattle.device.specs.Faults.{sick_at}
 use Rattle.device.specs.Meaning.{Sector, held, newest}
 use Rattle.device.specs.Calls.{Writes, Kept, standing, written, added}
@@ -73,5 +72,5 @@ chosen_at k true false f x = refl
 -- a cut changes nothing
 pub plain_cut : (layer : ℕ) (plan : List ℕ) (sick_ones : List (Option ℕ)) (bytes : List ℕ) → image_meaning layer sick_ones bytes [] ≡ cut_by plan (image_meaning layer sick_ones bytes [])
 plain_cut layer plan sick_ones bytes =
-    ap (λ (f : ℕ → Sector). record { size = whole bytes; power = On; sector = f })
+    ap (λ (f : ℕ → Sector). record { size = whole bytes; power = Ok tt; sector = f })
     (fun_ext (λ s. chosen_at (get_or plan s 0) (ltb s (whole bytes)) (is_sick sick_ones s) (sick_at layer s) (content bytes s)))

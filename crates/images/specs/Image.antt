@@ -1,7 +1,6 @@
 -- What an image means: its bytes, its sick sectors, and the writes that wait, oldest first. A plain image has none that wait.
-use Rattle.std.specs.Prelude.{ℕ, Bool, cond, List, [], ◌∷◌, Option, ◌==◌, nat_lt}
+use Rattle.std.specs.Prelude.{ℕ, Bool, cond, List, [], ◌∷◌, Option, ◌==◌, nat_lt, Ok}
 use Rattle.device.specs.declared.fault.Fault.{Fault}
-use Rattle.device.specs.declared.fault.Power.TheVariants.{On}
 use Rattle.device.specs.Faults.{sick_at}
 use Rattle.device.specs.Meaning.{Sector, sick, held, Meaning}
 use Rattle.images.specs.declared.queue.WaitingWrite.{WaitingWrite}
@@ -32,4 +31,4 @@ image_sector layer sick_ones bytes queue s = sector_of (nat_lt s (whole bytes)) 
 
 -- an image: its power is always on
 abbrev pub image_meaning : ℕ → List (Option ℕ) → List ℕ → List WaitingWrite → Meaning
-image_meaning layer sick_ones bytes queue = record { size = whole bytes; power = On; sector = image_sector layer sick_ones bytes queue }
+image_meaning layer sick_ones bytes queue = record { size = whole bytes; power = Ok tt; sector = image_sector layer sick_ones bytes queue }

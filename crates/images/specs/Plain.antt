@@ -2,10 +2,9 @@
 use Rattle.std.specs.Prelude.{◌≡◌, ℕ, cond, List, [], is_ok, Ok, Option, ◌==◌, refl}
 use Rattle.std.specs.Borrow.{MutBor}
 use Rattle.device.specs.declared.fault.Layer.TheVariants.{PlainImage as PlainLayer}
-use Rattle.device.specs.declared.fault.Power.TheVariants.{On}
-use Rattle.device.specs.Faults.{layer_number}
+use Rattle.device.specs.Faults.{layer_number, Answer}
 use Rattle.device.specs.Meaning.{Sector, held, Meaning, Lawful, newest}
-use Rattle.device.specs.Calls.{Answer, answer_of, standing, filled}
+use Rattle.device.specs.Calls.{answer_of, standing, filled}
 use Rattle.images.specs.declared.plain.PlainImage.{PlainImage}
 use Rattle.images.specs.Sectors.{over}
 use Rattle.images.specs.Image.{image_meaning}
@@ -45,7 +44,7 @@ pub record PlainWrites (p : PlainImage) (s : ℕ) (b : List ℕ) (r : Answer) (n
   pub answer : r ≡ answer_of (standing plain_number (plain_meaning p) s)
   pub lists : (t : ℕ) → (plain_meaning n).sector t ≡ cond (is_ok r) (replaced s b (plain_meaning p).sector t) ((plain_meaning p).sector t)
   pub bytes : n.bytes.now ≡ cond (is_ok r) (over p.bytes.now s b) p.bytes.now
-  pub power : (plain_meaning n).power ≡ On
+  pub power : (plain_meaning n).power ≡ Ok tt
   pub sick : n.sick ≡ p.sick
   pub lender : n.bytes.ghost_name ≡ p.bytes.ghost_name
 

@@ -2,10 +2,9 @@
 use Rattle.std.specs.Prelude.{◌≡◌, ℕ, cond, List, [], ◌∷◌, ◌++◌, length, is_ok, Ok, vec_items, Option}
 use Rattle.std.specs.Borrow.{MutBor}
 use Rattle.device.specs.declared.fault.Layer.TheVariants.{QueuedImage as QueuedLayer}
-use Rattle.device.specs.declared.fault.Power.TheVariants.{On}
-use Rattle.device.specs.Faults.{layer_number}
+use Rattle.device.specs.Faults.{layer_number, Answer}
 use Rattle.device.specs.Meaning.{Sector, Meaning, Lawful, newest}
-use Rattle.device.specs.Calls.{Answer, answer_of, standing, filled, written, settled}
+use Rattle.device.specs.Calls.{answer_of, standing, filled, written, settled}
 use Rattle.device.specs.Cuts.{cut_by}
 use Rattle.images.specs.declared.queue.WaitingWrite.{WaitingWrite}
 use Rattle.images.specs.declared.queued.QueuedImage.{QueuedImage}
@@ -40,7 +39,7 @@ pub record QueuedMade (sick_ones : List (Option ℕ)) (lent : MutBor (List ℕ))
 
 -- n has the sick sectors and the lender of p, and its power is on
 pub record Stays (p n : QueuedImage) : Type 0 where
-  pub power : (queued_meaning n).power ≡ On
+  pub power : (queued_meaning n).power ≡ Ok tt
   pub sick : n.sick ≡ p.sick
   pub lender : n.bytes.ghost_name ≡ p.bytes.ghost_name
 

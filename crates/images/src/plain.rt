@@ -1,13 +1,12 @@
 // The plain image.
 ghost use Rattle.std.specs.Prelude.{◌≡◌, [], ◌∷◌, map, None, Ok};
-ghost use Rattle.device.specs.declared.fault.Power.TheVariants.{On};
 ghost use Rattle.device.specs.Calls.{Reads, Writes, Flushes, standing};
 ghost use Rattle.device.specs.Cuts.{EachCut, cut_by};
 ghost use Rattle.images.specs.Sectors.{whole};
 ghost use Rattle.images.specs.Plain.{plain_number, plain_meaning, plain_lawful, PlainMade, PlainReads, PlainWrites, PlainFlushes};
 
 use crate::sectors::{load, refusal, store, whole_sectors};
-use device::{CuttableDevice, Device, Fault, Layer, Power};
+use device::{CuttableDevice, Device, Fault, Layer};
 
 // An image whose writes settle at once.
 #[derive(Drop)]
@@ -76,11 +75,11 @@ impl<'a> Device for PlainImage<'a> {
         whole_sectors(self.bytes)
     }
 
-    fn power(&self) -> Power
+    fn power(&self) -> Result<(), Fault>
         ensures meets { result ≡ (plain_meaning self.now).power }
-        ensures exact { result ≡ On }
+        ensures exact { result ≡ Ok tt }
     {
-        Power::On
+        Ok(())
     }
 
     fn read(&mut self, sector: u32, buffer: &mut [u8; 512]) -> Result<(), Fault>

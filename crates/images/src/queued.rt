@@ -1,6 +1,5 @@
 // The queued image.
-ghost use Rattle.std.specs.Prelude.{◌≡◌, [], ◌∷◌, map, IfOk};
-ghost use Rattle.device.specs.declared.fault.Power.TheVariants.{On};
+ghost use Rattle.std.specs.Prelude.{◌≡◌, [], ◌∷◌, map, IfOk, Ok};
 ghost use Rattle.device.specs.Calls.{Reads, Writes, Flushes, standing};
 ghost use Rattle.device.specs.Cuts.{EachCut, cut_by};
 ghost use Rattle.images.specs.Sectors.{whole};
@@ -8,7 +7,7 @@ ghost use Rattle.images.specs.Queued.{queued_number, queued_meaning, queued_lawf
 
 use crate::queue::Queue;
 use crate::sectors::{refusal, whole_sectors};
-use device::{CuttableDevice, Device, Fault, Layer, Power};
+use device::{CuttableDevice, Device, Fault, Layer};
 use std::alloc::{AllocError, Global};
 
 mod choosing;
@@ -64,11 +63,11 @@ impl<'a> Device for QueuedImage<'a> {
         whole_sectors(self.bytes)
     }
 
-    fn power(&self) -> Power
+    fn power(&self) -> Result<(), Fault>
         ensures meets { result ≡ (queued_meaning self.now).power }
-        ensures exact { result ≡ On }
+        ensures exact { result ≡ Ok tt }
     {
-        Power::On
+        Ok(())
     }
 
     fn read(&mut self, sector: u32, buffer: &mut [u8; 512]) -> Result<(), Fault>

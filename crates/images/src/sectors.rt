@@ -55,9 +55,9 @@ pub fn refusal(layer: Layer, size: u32, sick: &[Option<u32>; 4], sector: u32) ->
     ensures { result ≡ refusal (layer_number layer) size sick.now sector }
 {
     if sector >= size {
-        Some(Fault::out_of_range(layer.number(), sector))
+        Some(Fault::out_of_range(layer.into(), sector))
     } else if is_sick(sick, sector) {
-        Some(Fault::sick(layer.number(), sector))
+        Some(Fault::sick(layer.into(), sector))
     } else {
         None
     }

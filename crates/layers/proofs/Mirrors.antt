@@ -1,9 +1,7 @@
 -- From what a call did to each side to what it did to the mirror.
 use Rattle.std.proofs.Common.{◌≡◌, ℕ, ◌<◌, ◌⊎◌, List, None, Ok, Err, sym, refl, ap, ◌∙◌, subst, inl, inr, ⊎_elim, arith}
 use Rattle.device.specs.declared.fault.Fault.{Fault}
-use Rattle.device.specs.declared.fault.Power.{Power}
-use Rattle.device.specs.declared.fault.Power.TheVariants.{On, Off}
-use Rattle.device.specs.Faults.{raised, raised_power}
+use Rattle.device.specs.Faults.{raised, raised_answer, Answer}
 use Rattle.device.specs.Meaning.{Sector, sick, Meaning, newest}
 use Rattle.device.specs.Calls.{ByAnswer, Reads, Writes, Flushes, Kept, Worn, Refused, Went, Accepted, answer_of, power_fault, sick_fault, standing, settled, written}
 use Rattle.device.specs.Cuts.{Cut}
@@ -16,16 +14,16 @@ use Rattle.layers.specs.Sides.{joined, Ready, SideWrote, SideFlushed, SidesRead,
 use Rattle.layers.proofs.Eithers.{either_worn, either_kept, either_cut, either_settled, written_either, kept_sick, healthy_first, healthy_second, both_sick, newest_first, newest_second}
 
 -- where either side's power is off, so is the mirror's
-both_off : (p q : Power) (f : Fault) → (p ≡ Off f) ⊎ (q ≡ Off f) → (g : Fault) × (both_power p q ≡ Off g)
-both_off (Off g) q f e = (raised g, refl)
-both_off On (Off g) f e = (raised g, refl)
-both_off On On f e = absurd (⊎_elim (on_off f) (on_off f) e)
+both_off : (p q : Answer) (f : Fault) → (p ≡ Err f) ⊎ (q ≡ Err f) → (g : Fault) × (both_power p q ≡ Err g)
+both_off (Err g) q f e = (raised g, refl)
+both_off (Ok x) (Err g) f e = (raised g, refl)
+both_off (Ok x) (Ok y) f e = absurd (⊎_elim (on_off x f) (on_off y f) e)
   where
-    on_off : (f : Fault) → On ≡ Off f → ⊥
-    on_off f e = let z : ◌≡◌ {A = ℕ} 0 1 = cc in omega arith
+    on_off : (u : Unit {0}) (f : Fault) → ◌≡◌ {A = Answer} (Ok u) (Err f) → ⊥
+    on_off u f e = let z : ◌≡◌ {A = ℕ} 0 1 = cc in omega arith
 
-both_on : (p q : Power) → p ≡ On → q ≡ On → both_power p q ≡ On
-both_on p q e d = ap (λ (x : Power). both_power x q) e ∙ ap raised_power d
+both_on : (p q : Answer) → p ≡ Ok tt → q ≡ Ok tt → both_power p q ≡ Ok tt
+both_on p q e d = ap (λ (x : Answer). both_power x q) e ∙ ap raised_answer d
 
 -- neither range nor power stands in the way of a mirror whose sides are ready
 ready_stands : (a b : Meaning) (s : ℕ) → Ready a s → Ready b s → standing mirror_layer (mirrored a b) s ≡ sick_fault (either (a.sector s) (b.sector s))
@@ -36,7 +34,7 @@ ready_stands a b s h k =
 
 -- the mirror loses power in a call: pa, pb and at have the sectors as the call would have left them
 mirror_failed : (a b a' b' : Meaning) (pa pb at : ℕ → Sector) (Done : Type 0) (f : Fault)
-    → a'.size ≡ a.size → b'.size ≡ b.size → both_power a'.power b'.power ≡ Off f
+    → a'.size ≡ a.size → b'.size ≡ b.size → both_power a'.power b'.power ≡ Err f
     → ((t : ℕ) → Worn (pa t) (a'.sector t)) → ((t : ℕ) → Worn (pb t) (b'.sector t)) → ((t : ℕ) → at t ≡ either (pa t) (pb t))
     → Went (mirrored a b) at Done (Err f) (mirrored a' b')
 mirror_failed a b a' b' pa pb at Done f ea eb p wa wb h = record {
@@ -51,12 +49,12 @@ mirror_failed a b a' b' pa pb at Done f ea eb p wa wb h = record {
 
 -- the answer is then the mirror's fault
 mirror_lost : (a b a' b' : Meaning) (pa pb at : ℕ → Sector) (Done : Type 0) (f : Fault)
-    → a'.size ≡ a.size → b'.size ≡ b.size → (a'.power ≡ Off f) ⊎ (b'.power ≡ Off f)
+    → a'.size ≡ a.size → b'.size ≡ b.size → (a'.power ≡ Err f) ⊎ (b'.power ≡ Err f)
     → ((t : ℕ) → Worn (pa t) (a'.sector t)) → ((t : ℕ) → Worn (pb t) (b'.sector t)) → ((t : ℕ) → at t ≡ either (pa t) (pb t))
     → Went (mirrored a b) at Done (answer_of (power_fault (both_power a'.power b'.power))) (mirrored a' b')
 mirror_lost a b a' b' pa pb at Done f ea eb off wa wb h =
     let o = both_off a'.power b'.power f off in
-    let P : Power → Type 0 = λ p. Went (mirrored a b) at Done (answer_of (power_fault p)) (mirrored a' b') in
+    let P : Answer → Type 0 = λ p. Went (mirrored a b) at Done (answer_of (power_fault p)) (mirrored a' b') in
     subst P (sym o.1) (mirror_failed a b a' b' pa pb at Done o.0 ea eb o.1 wa wb h)
 
 mirror_accepted : (a b a' b' : Meaning) (pa pb at : ℕ → Sector)
@@ -71,10 +69,10 @@ mirror_accepted a b a' b' pa pb at ea eb wa wb h = record {
 }
 
 -- where power is lost nothing is said of an accepted call
-lost_says : (P : Type 0) (p q : Power) (f : Fault) → (p ≡ Off f) ⊎ (q ≡ Off f) → ByAnswer (answer_of (power_fault (both_power p q))) P (λ g. Unit {0})
+lost_says : (P : Type 0) (p q : Answer) (f : Fault) → (p ≡ Err f) ⊎ (q ≡ Err f) → ByAnswer (answer_of (power_fault (both_power p q))) P (λ g. Unit {0})
 lost_says P p q f off =
     let o = both_off p q f off in
-    subst (λ (x : Power). ByAnswer (answer_of (power_fault x)) P (λ g. Unit {0})) (sym o.1) tt
+    subst (λ (x : Answer). ByAnswer (answer_of (power_fault x)) P (λ g. Unit {0})) (sym o.1) tt
 
 -- read
 
@@ -96,12 +94,12 @@ read_accepted a b a' b' s buffer buffer' ra rb healthy ea eb h k e =
     (mirror_accepted a b a' b' a.sector b.sector (mirrored a b).sector ea eb h k (λ t. refl)) e
 
 read_lost : (a b a' b' : Meaning) (s : ℕ) (buffer buffer' : List ℕ) (f : Fault) → Ready a s → Ready b s
-    → sick_fault (either (a.sector s) (b.sector s)) ≡ None → (a'.power ≡ Off f) ⊎ (b'.power ≡ Off f) → a'.size ≡ a.size → b'.size ≡ b.size
+    → sick_fault (either (a.sector s) (b.sector s)) ≡ None → (a'.power ≡ Err f) ⊎ (b'.power ≡ Err f) → a'.size ≡ a.size → b'.size ≡ b.size
     → ((t : ℕ) → Worn (a.sector t) (a'.sector t)) → ((t : ℕ) → Worn (b.sector t) (b'.sector t)) → buffer' ≡ buffer
     → Reads mirror_layer (mirrored a b) s buffer (answer_of (power_fault (both_power a'.power b'.power))) (mirrored a' b') buffer'
 read_lost a b a' b' s buffer buffer' f ra rb healthy off ea eb h k e =
     let o = both_off a'.power b'.power f off in
-    let P : Power → Type 0 = λ p. Reads mirror_layer (mirrored a b) s buffer (answer_of (power_fault p)) (mirrored a' b') buffer' in
+    let P : Answer → Type 0 = λ p. Reads mirror_layer (mirrored a b) s buffer (answer_of (power_fault p)) (mirrored a' b') buffer' in
     subst P (sym o.1)
     (reads_went mirror_layer s (mirrored a b) (mirrored a' b') buffer buffer' (Err o.0) (ready_stands a b s ra rb ∙ healthy)
     (mirror_failed a b a' b' a.sector b.sector (mirrored a b).sector (Accepted (mirrored a b).sector (mirrored a' b')) o.0 ea eb o.1 h k (λ t. refl)) e)
@@ -155,7 +153,7 @@ write_accepted a b a' b' s w ra rb healthy ea eb h k =
     (mirror_accepted a b a' b' (written s w a.sector) (written s w b.sector) (written s w (mirrored a b).sector) ea eb h k (written_either s w a b))
 
 write_lost : (a b a' b' : Meaning) (s : ℕ) (w : List ℕ) (o p : Outcome) (f : Fault) → Ready a s → Ready b s
-    → sick_fault (either (a.sector s) (b.sector s)) ≡ None → (a'.power ≡ Off f) ⊎ (b'.power ≡ Off f) → SideWrote a s w o a' → SideWrote b s w p b'
+    → sick_fault (either (a.sector s) (b.sector s)) ≡ None → (a'.power ≡ Err f) ⊎ (b'.power ≡ Err f) → SideWrote a s w o a' → SideWrote b s w p b'
     → Writes mirror_layer (mirrored a b) s w (answer_of (power_fault (both_power a'.power b'.power))) (mirrored a' b')
 write_lost a b a' b' s w o p f ra rb healthy off h k =
     writes_went mirror_layer s (mirrored a b) (mirrored a' b') w (answer_of (power_fault (both_power a'.power b'.power))) (ready_stands a b s ra rb ∙ healthy)
@@ -206,7 +204,7 @@ flushed_worn m n Fine h t = kept_worn (m.sector t) (n.sector t) (settled_kept (m
 flushed_worn m n (Sick f) h t = absurd h.so
 flushed_worn m n (PowerLost f) h t = h.so.each t
 
-flush_accepted : (a b a' b' : Meaning) → a.power ≡ On → b.power ≡ On → SideFlushed a Fine a' → SideFlushed b Fine b' → Flushes (mirrored a b) (Ok tt) (mirrored a' b')
+flush_accepted : (a b a' b' : Meaning) → a.power ≡ Ok tt → b.power ≡ Ok tt → SideFlushed a Fine a' → SideFlushed b Fine b' → Flushes (mirrored a b) (Ok tt) (mirrored a' b')
 flush_accepted a b a' b' pa pb h k =
     let ea = h.size in
     let eb = k.size in
@@ -218,15 +216,15 @@ flush_accepted a b a' b' pa pb h k =
           ∙ either_settled (a.sector t) (b.sector t);
     })
 
-flush_lost : (a b a' b' : Meaning) (o p : Outcome) (f : Fault) → a.power ≡ On → b.power ≡ On
-    → (a'.power ≡ Off f) ⊎ (b'.power ≡ Off f) → SideFlushed a o a' → SideFlushed b p b'
+flush_lost : (a b a' b' : Meaning) (o p : Outcome) (f : Fault) → a.power ≡ Ok tt → b.power ≡ Ok tt
+    → (a'.power ≡ Err f) ⊎ (b'.power ≡ Err f) → SideFlushed a o a' → SideFlushed b p b'
     → Flushes (mirrored a b) (answer_of (power_fault (both_power a'.power b'.power))) (mirrored a' b')
 flush_lost a b a' b' o p f pa pb off h k =
     flushes_went (mirrored a b) (mirrored a' b') (answer_of (power_fault (both_power a'.power b'.power))) (both_on a.power b.power pa pb)
     (mirror_lost a b a' b' a.sector b.sector (mirrored a b).sector ((t : ℕ) → (mirrored a' b').sector t ≡ settled ((mirrored a b).sector t)) f
     h.size k.size off (flushed_worn a a' o h) (flushed_worn b b' p k) (λ t. refl))
 
-pub flush_joined : (a b a' b' : Meaning) (o p : Outcome) → a.power ≡ On → b.power ≡ On → SideFlushed a o a' → SideFlushed b p b'
+pub flush_joined : (a b a' b' : Meaning) (o p : Outcome) → a.power ≡ Ok tt → b.power ≡ Ok tt → SideFlushed a o a' → SideFlushed b p b'
     → Flushes (mirrored a b) (joined o p (both_power a'.power b'.power)) (mirrored a' b')
 flush_joined a b a' b' Fine Fine pa pb h k = flush_accepted a b a' b' pa pb h k
 flush_joined a b a' b' Fine (Sick g) pa pb h k = absurd k.so

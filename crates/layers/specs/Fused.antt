@@ -3,11 +3,9 @@ use Rattle.std.specs.Prelude.{◌≡◌, ℕ, zero, suc, ◌-◌, ◌<◌, Bool,
 use Rattle.device.specs.declared.fault.Cause.TheVariants.{PowerLost}
 use Rattle.device.specs.declared.fault.Layer.TheVariants.{Fuse as FuseKind}
 use Rattle.device.specs.declared.fault.Fault.{Fault}
-use Rattle.device.specs.declared.fault.Power.{Power}
-use Rattle.device.specs.declared.fault.Power.TheVariants.{Off}
-use Rattle.device.specs.Faults.{layer_number, out_of_range, raised_power}
+use Rattle.device.specs.Faults.{layer_number, out_of_range, raised_answer, Answer}
 use Rattle.device.specs.Meaning.{Meaning, raised_sector}
-use Rattle.device.specs.Calls.{Answer, ByFault, Refused, Reads, Writes, Flushes, raised_answer}
+use Rattle.device.specs.Calls.{ByFault, Refused, Reads, Writes, Flushes}
 use Rattle.layers.specs.declared.fuse.Counter.{Counter}
 use Rattle.layers.specs.declared.fuse.Fuse.{Fuse}
 
@@ -47,8 +45,8 @@ abbrev pub blown_fault : Fault
 blown_fault = record { cause = PowerLost; sector = 0; layer = fuse_layer; depth = 0 }
 
 -- power is off where the fuse is blown, and else as below
-abbrev pub fused_power : Bool → Power → Power
-fused_power blown p = cond blown (Off blown_fault) (raised_power p)
+abbrev pub fused_power : Bool → Answer → Answer
+fused_power blown p = cond blown (Err blown_fault) (raised_answer p)
 
 -- a device below a fuse
 abbrev pub fused : Bool → Meaning → Meaning

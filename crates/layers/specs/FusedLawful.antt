@@ -1,15 +1,14 @@
 -- A device below a fuse is lawful again.
-use Rattle.std.specs.Prelude.{Bool, true, false, refl}
-use Rattle.device.specs.declared.fault.Power.{Power}
-use Rattle.device.specs.declared.fault.Power.TheVariants.{On, Off}
+use Rattle.std.specs.Prelude.{Bool, true, false, refl, Ok, Err}
+use Rattle.device.specs.Faults.{Answer}
 use Rattle.device.specs.Meaning.{Sector, sick, held, Meaning, raised_sector, Lawful, LawfulPower, LawfulSector}
 use Rattle.layers.specs.Fused.{fused, fused_power}
 
 -- a blown fuse says that power is lost, and raising keeps cause and sector
-lawful_power : (blown : Bool) (p : Power) → LawfulPower p → LawfulPower (fused_power blown p)
+lawful_power : (blown : Bool) (p : Answer) → LawfulPower p → LawfulPower (fused_power blown p)
 lawful_power true p h = (refl, refl)
-lawful_power false On h = tt
-lawful_power false (Off f) h = h
+lawful_power false (Ok x) h = tt
+lawful_power false (Err f) h = h
 
 -- raising changes no content and no cause
 lawful_sector : (t : Sector) → LawfulSector t → LawfulSector (raised_sector t)

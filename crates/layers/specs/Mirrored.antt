@@ -1,9 +1,7 @@
 -- What a mirror means over the two devices below it.
-use Rattle.std.specs.Prelude.{ℕ, min}
+use Rattle.std.specs.Prelude.{ℕ, min, Ok, Err}
 use Rattle.device.specs.declared.fault.Layer.TheVariants.{Mirror as MirrorKind}
-use Rattle.device.specs.declared.fault.Power.{Power}
-use Rattle.device.specs.declared.fault.Power.TheVariants.{On, Off}
-use Rattle.device.specs.Faults.{layer_number, raised, raised_power}
+use Rattle.device.specs.Faults.{layer_number, raised, raised_answer, Answer}
 use Rattle.device.specs.Meaning.{Sector, sick, held, Meaning}
 use Rattle.layers.specs.declared.mirror.Mirror.{Mirror}
 
@@ -18,9 +16,9 @@ either (sick f) (held old new) = held old new
 either (sick f) (sick g) = sick (raised f)
 
 -- power is off if either side's is; the first side's fault goes first
-abbrev pub both_power : Power → Power → Power
-both_power (Off f) q = Off (raised f)
-both_power On q = raised_power q
+abbrev pub both_power : Answer → Answer → Answer
+both_power (Err f) q = Err (raised f)
+both_power (Ok x) q = raised_answer q
 
 -- two devices that hold the same
 abbrev pub mirrored : Meaning → Meaning → Meaning

@@ -1,16 +1,15 @@
 -- Two lawful devices make a lawful mirror.
-use Rattle.std.specs.Prelude.{◌≤◌}
+use Rattle.std.specs.Prelude.{◌≤◌, Ok, Err}
 use Rattle.std.proofs.Common.{arith}
-use Rattle.device.specs.declared.fault.Power.{Power}
-use Rattle.device.specs.declared.fault.Power.TheVariants.{On, Off}
+use Rattle.device.specs.Faults.{Answer}
 use Rattle.device.specs.Meaning.{Sector, sick, held, Meaning, Lawful, LawfulPower, LawfulSector}
 use Rattle.layers.specs.Mirrored.{either, both_power, mirrored}
 
 -- the power that is told is one of the two
-lawful_power : (p q : Power) → LawfulPower p → LawfulPower q → LawfulPower (both_power p q)
-lawful_power (Off f) q h k = h
-lawful_power On On h k = tt
-lawful_power On (Off f) h k = k
+lawful_power : (p q : Answer) → LawfulPower p → LawfulPower q → LawfulPower (both_power p q)
+lawful_power (Err f) q h k = h
+lawful_power (Ok x) (Ok y) h k = tt
+lawful_power (Ok x) (Err f) h k = k
 
 -- the sector that is shown is one of the two
 lawful_sector : (s t : Sector) → LawfulSector s → LawfulSector t → LawfulSector (either s t)

@@ -1,11 +1,9 @@
 -- What a mirror's calls do to each of its sides.
 use Rattle.std.specs.Prelude.{◌≡◌, ℕ, ◌<◌, cond, List, Some, None, Ok, Err, Option, nat_lt}
 use Rattle.device.specs.declared.fault.Fault.{Fault}
-use Rattle.device.specs.declared.fault.Power.{Power}
-use Rattle.device.specs.declared.fault.Power.TheVariants.{On}
-use Rattle.device.specs.Faults.{out_of_range, raised}
+use Rattle.device.specs.Faults.{out_of_range, raised, Answer}
 use Rattle.device.specs.Meaning.{sick, Meaning, newest}
-use Rattle.device.specs.Calls.{Answer, ByAnswer, ByFault, Accepted, Failed, answer_of, power_fault, sick_fault, settled, written}
+use Rattle.device.specs.Calls.{ByAnswer, ByFault, Accepted, Failed, answer_of, power_fault, sick_fault, settled, written}
 use Rattle.layers.specs.declared.mirror.Mirror.{Mirror}
 use Rattle.layers.specs.declared.mirror.Outcome.{Outcome}
 use Rattle.layers.specs.declared.mirror.Outcome.TheVariants.{Fine, Sick, PowerLost}
@@ -18,7 +16,7 @@ ByOutcome (Sick f) P Q R = Q f
 ByOutcome (PowerLost f) P Q R = R f
 
 -- the mirror's answer, by how the call ended on each side and by the mirror's power after it
-abbrev pub joined : Outcome → Outcome → Power → Answer
+abbrev pub joined : Outcome → Outcome → Answer → Answer
 joined Fine Fine power = Ok tt
 joined Fine (Sick g) power = Ok tt
 joined Fine (PowerLost g) power = answer_of (power_fault power)
@@ -30,7 +28,7 @@ joined (PowerLost f) o power = answer_of (power_fault power)
 -- a side takes a call to sector s: the sector is in range, and power is on
 pub record Ready (m : Meaning) (s : ℕ) : Type 0 where
   pub range : s < m.size
-  pub power : m.power ≡ On
+  pub power : m.power ≡ Ok tt
 
 -- a read of a side that is ready
 pub record SideRead (m : Meaning) (s : ℕ) (buffer : List ℕ) (o : Outcome) (n : Meaning) (buffer' : List ℕ) : Type 0 where

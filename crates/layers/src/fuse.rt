@@ -1,13 +1,14 @@
 // A fuse: cuts its own power after a chosen number of accepted writes and flushes.
 ghost use Rattle.std.specs.Prelude.{◌≡◌, false, ◌∷◌, map};
-ghost use Rattle.device.specs.Calls.{Reads, Writes, Flushes, raised_answer};
+ghost use Rattle.device.specs.Faults.{raised_answer};
+ghost use Rattle.device.specs.Calls.{Reads, Writes, Flushes};
 ghost use Rattle.device.specs.Cuts.{EachCut, cut_by};
 ghost use Rattle.layers.specs.Fused.{unset, set_to, counted, BlowsInTime, Counts, blown_fault, fuse_layer, fused_power, fuse_meaning, FuseReads, FuseWrites, FuseFlushes, FuseFetched, FuseWrote, FuseFlushed};
 ghost use Rattle.layers.specs.FusedLawful.{fused_lawful};
 ghost use Rattle.layers.specs.WholeCuts.{under_fuse};
 
 use device::fault::raised;
-use device::{Cause, CuttableDevice, Device, Fault, Layer, Power};
+use device::{CuttableDevice, Device, Fault, Layer};
 
 // What a fuse counts: how many accepted writes and flushes it still takes, 0 where it is not set.
 #[derive(Clone, Copy)]
@@ -55,12 +56,7 @@ impl Counter {
 fn blown_fault() -> Fault
     ensures { result ≡ blown_fault }
 {
-    Fault {
-        cause: Cause::PowerLost,
-        sector: 0,
-        layer: Layer::Fuse.number(),
-        depth: 0,
-    }
+    Fault::power_lost(Layer::Fuse.into())
 }
 
 // A device below a fuse.
@@ -133,13 +129,13 @@ impl<D: Device> Device for Fuse<D> {
         self.inner.size()
     }
 
-    fn power(&self) -> Power
+    fn power(&self) -> Result<(), Fault>
         ensures { result ≡ fused_power self.now.counter.blown (D.Device.meaning self.now.inner).power }
     {
         if self.counter.blown {
-            return Power::Off(blown_fault());
+            return Err(blown_fault());
         }
-        self.inner.power().raised()
+        raised(self.inner.power())
     }
 
     fn read(&mut self, sector: u32, buffer: &mut [u8; 512]) -> Result<(), Fault>
@@ -149,7 +145,7 @@ impl<D: Device> Device for Fuse<D> {
         ensures exact { FuseFetched D.Device.meaning D.Device.fetched self.old sector buffer.old result self.new buffer.new }
     {
         if sector >= self.size() {
-            return Err(Fault::out_of_range(Layer::Fuse.number(), sector));
+            return Err(Fault::out_of_range(Layer::Fuse.into(), sector));
         }
         if self.counter.blown {
             return Err(blown_fault());
@@ -164,7 +160,7 @@ impl<D: Device> Device for Fuse<D> {
         ensures exact { FuseWrote D.Device.meaning D.Device.wrote self.old sector content.now result self.new }
     {
         if sector >= self.size() {
-            return Err(Fault::out_of_range(Layer::Fuse.number(), sector));
+            return Err(Fault::out_of_range(Layer::Fuse.into(), sector));
         }
         if self.counter.blown {
             return Err(blown_fault());

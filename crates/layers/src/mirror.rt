@@ -1,6 +1,5 @@
 // A mirror: two devices that hold the same.
-ghost use Rattle.std.specs.Prelude.{◌≡◌, min, ◌∷◌, map};
-ghost use Rattle.device.specs.declared.fault.Power.TheVariants.{On};
+ghost use Rattle.std.specs.Prelude.{◌≡◌, min, ◌∷◌, map, Ok};
 ghost use Rattle.device.specs.Calls.{Reads, Writes, Flushes, answer_of, power_fault};
 ghost use Rattle.device.specs.Cuts.{EachCut, cut_by};
 ghost use Rattle.layers.specs.Mirrored.{both_power, mirror_layer, mirror_meaning};
@@ -8,7 +7,8 @@ ghost use Rattle.layers.specs.MirroredLawful.{mirrored_lawful};
 ghost use Rattle.layers.specs.Sides.{joined, OnSides, Ready, SideRead, SideWrote, SideFlushed, SidesRead, SidesWrote, SidesFlushed, Joined, MirrorReads, MirrorWrites, MirrorFlushes, EachWrote, EachFlushed, outcome_answer, SidesFetched, EitherFetched, MirrorFetched, BothWrote, MirrorWrote, BothFlushed, MirrorFlushed};
 ghost use Rattle.layers.specs.WholeCuts.{WholeCut, mirror_images, under_mirror};
 
-use device::{CuttableDevice, Device, Fault, Layer, Power};
+use device::fault::raised;
+use device::{CuttableDevice, Device, Fault, Layer};
 
 // How a call ended on one side.
 #[derive(Clone, Copy)]
@@ -30,43 +30,30 @@ struct Sides {
 
 impl Sides {
     // What the mirror answers, if this is its power after the call.
-    fn answer(self, power: Power) -> Result<(), Fault>
+    fn answer(self, power: Result<(), Fault>) -> Result<(), Fault>
         ensures { result ≡ joined self.first self.second power }
     {
         match self.first {
             Outcome::Fine => match self.second {
                 Outcome::Fine => Ok(()),
                 Outcome::Sick(_) => Ok(()),
-                Outcome::PowerLost(_) => answer_of(power),
+                Outcome::PowerLost(_) => power,
             },
             Outcome::Sick(fault) => match self.second {
                 Outcome::Fine => Ok(()),
                 Outcome::Sick(_) => Err(fault.raised()),
-                Outcome::PowerLost(_) => answer_of(power),
+                Outcome::PowerLost(_) => power,
             },
-            Outcome::PowerLost(_) => answer_of(power),
+            Outcome::PowerLost(_) => power,
         }
     }
 }
 
-// Accepts where power is on.
-fn answer_of(power: Power) -> Result<(), Fault>
-    ensures { result ≡ answer_of (power_fault power) }
-{
-    match power {
-        Power::On => Ok(()),
-        Power::Off(fault) => Err(fault),
-    }
-}
-
 // The power of a mirror, by that of its sides.
-fn both_power(first: Power, second: Power) -> Power
+fn both_power(first: Result<(), Fault>, second: Result<(), Fault>) -> Result<(), Fault>
     ensures { result ≡ both_power first second }
 {
-    match first {
-        Power::On => second.raised(),
-        Power::Off(fault) => Power::Off(fault.raised()),
-    }
+    raised(first.and(second))
 }
 
 // Reads one side.
@@ -78,8 +65,8 @@ fn read_side<D: Device>(side: &mut D, sector: u32, buffer: &mut [u8; 512]) -> Ou
     match side.read(sector, buffer) {
         Ok(()) => Outcome::Fine,
         Err(fault) => match side.power() {
-            Power::On => Outcome::Sick(fault),
-            Power::Off(_) => Outcome::PowerLost(fault),
+            Ok(()) => Outcome::Sick(fault),
+            Err(_) => Outcome::PowerLost(fault),
         },
     }
 }
@@ -93,15 +80,15 @@ fn write_side<D: Device>(side: &mut D, sector: u32, content: &[u8; 512]) -> Outc
     match side.write(sector, content) {
         Ok(()) => Outcome::Fine,
         Err(fault) => match side.power() {
-            Power::On => Outcome::Sick(fault),
-            Power::Off(_) => Outcome::PowerLost(fault),
+            Ok(()) => Outcome::Sick(fault),
+            Err(_) => Outcome::PowerLost(fault),
         },
     }
 }
 
 // Flushes one side.
 fn flush_side<D: Device>(side: &mut D) -> Outcome
-    requires { (D.Device.meaning side.old).power ≡ On }
+    requires { (D.Device.meaning side.old).power ≡ Ok tt }
     ensures meets { SideFlushed (D.Device.meaning side.old) result (D.Device.meaning side.new) }
     ensures exact { D.Device.flushed side.old (outcome_answer result) side.new }
 {
@@ -174,8 +161,8 @@ impl<D: Device, E: Device> Mirror<D, E> {
 
     // Flushes both sides.
     fn flush_sides(&mut self) -> Sides
-        requires first { (D.Device.meaning self.old.first).power ≡ On }
-        requires second { (E.Device.meaning self.old.second).power ≡ On }
+        requires first { (D.Device.meaning self.old.first).power ≡ Ok tt }
+        requires second { (E.Device.meaning self.old.second).power ≡ Ok tt }
         ensures meets { OnSides D.Device.meaning E.Device.meaning (SidesFlushed result.first result.second) self.old self.new }
         ensures exact_first { D.Device.flushed self.old.first (outcome_answer result.first) self.new.first }
         ensures exact_second { E.Device.flushed self.old.second (outcome_answer result.second) self.new.second }
@@ -215,8 +202,8 @@ impl<D: Device, E: Device> Mirror<D, E> {
 
     // A flush, where both sides have power.
     fn flush_ready(&mut self) -> Result<(), Fault>
-        requires first { (D.Device.meaning self.old.first).power ≡ On }
-        requires second { (E.Device.meaning self.old.second).power ≡ On }
+        requires first { (D.Device.meaning self.old.first).power ≡ Ok tt }
+        requires second { (E.Device.meaning self.old.second).power ≡ Ok tt }
         ensures meets { Flushes (mirror_meaning D.Device.meaning E.Device.meaning self.old) result (mirror_meaning D.Device.meaning E.Device.meaning self.new) }
         ensures lists { OnSides D.Device.meaning E.Device.meaning (EachFlushed result) self.old self.new }
         ensures sides { OnSides D.Device.meaning E.Device.meaning (Joined SidesFlushed result) self.old self.new }
@@ -266,7 +253,7 @@ impl<D: Device, E: Device> Device for Mirror<D, E> {
         self.first.size().min(self.second.size())
     }
 
-    fn power(&self) -> Power
+    fn power(&self) -> Result<(), Fault>
         ensures { result ≡ both_power (D.Device.meaning self.now.first).power (E.Device.meaning self.now.second).power }
     {
         both_power(self.first.power(), self.second.power())
@@ -278,11 +265,9 @@ impl<D: Device, E: Device> Device for Mirror<D, E> {
         ensures exact { MirrorFetched D.Device.meaning E.Device.meaning D.Device.fetched E.Device.fetched self.old sector buffer.old result self.new buffer.new }
     {
         if sector >= self.size() {
-            return Err(Fault::out_of_range(Layer::Mirror.number(), sector));
+            return Err(Fault::out_of_range(Layer::Mirror.into(), sector));
         }
-        if let Power::Off(fault) = self.power() {
-            return Err(fault);
-        }
+        self.power()?;
         self.read_ready(sector, buffer)
     }
 
@@ -293,11 +278,9 @@ impl<D: Device, E: Device> Device for Mirror<D, E> {
         ensures exact { MirrorWrote D.Device.meaning E.Device.meaning D.Device.wrote E.Device.wrote self.old sector content.now result self.new }
     {
         if sector >= self.size() {
-            return Err(Fault::out_of_range(Layer::Mirror.number(), sector));
+            return Err(Fault::out_of_range(Layer::Mirror.into(), sector));
         }
-        if let Power::Off(fault) = self.power() {
-            return Err(fault);
-        }
+        self.power()?;
         self.write_ready(sector, content)
     }
 
@@ -307,9 +290,7 @@ impl<D: Device, E: Device> Device for Mirror<D, E> {
         ensures sides { OnSides D.Device.meaning E.Device.meaning (MirrorFlushes result) self.old self.new }
         ensures exact { MirrorFlushed D.Device.meaning E.Device.meaning D.Device.flushed E.Device.flushed self.old result self.new }
     {
-        if let Power::Off(fault) = self.power() {
-            return Err(fault);
-        }
+        self.power()?;
         self.flush_ready()
     }
 }

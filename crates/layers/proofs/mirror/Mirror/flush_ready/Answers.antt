@@ -1,6 +1,7 @@
 -- What a flush did to the sides is what it does to the mirror.
 use Rattle.std.proofs.Common.{◌≡◌, sym, subst}
-use Rattle.device.specs.Calls.{Answer, Flushes}
+use Rattle.device.specs.Faults.{Answer}
+use Rattle.device.specs.Calls.{Flushes}
 use Rattle.layers.specs.Mirrored.{both_power, mirrored}
 use Rattle.layers.specs.Sides.{joined, EachFlushed}
 use Rattle.layers.proofs.Mirrors.{flush_joined, flush_lists}

@@ -1,6 +1,7 @@
 -- What a read did to the sides is what it does to the mirror.
 use Rattle.std.proofs.Common.{◌≡◌, sym, subst}
-use Rattle.device.specs.Calls.{Answer, Reads}
+use Rattle.device.specs.Faults.{Answer}
+use Rattle.device.specs.Calls.{Reads}
 use Rattle.layers.specs.Mirrored.{both_power, mirrored, mirror_layer}
 use Rattle.layers.specs.Sides.{joined}
 use Rattle.layers.proofs.Mirrors.{read_joined}

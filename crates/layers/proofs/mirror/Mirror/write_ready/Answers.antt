@@ -1,6 +1,7 @@
 -- What a write did to the sides is what it does to the mirror.
 use Rattle.std.proofs.Common.{◌≡◌, sym, subst}
-use Rattle.device.specs.Calls.{Answer, Writes}
+use Rattle.device.specs.Faults.{Answer}
+use Rattle.device.specs.Calls.{Writes}
 use Rattle.layers.specs.Mirrored.{both_power, mirrored, mirror_layer}
 use Rattle.layers.specs.Sides.{joined, EachWrote}
 use Rattle.layers.proofs.Mirrors.{write_joined, write_lists}
