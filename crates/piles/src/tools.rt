@@ -1,22 +1,19 @@
 // Calls of a device, with answers that are easy to compare.
 #[cfg(test)]
 pub mod calls {
-    use device::{Device, Fault, Power};
+    use device::{Device, Fault};
 
     // The four numbers of a fault, or zeros where the call was accepted.
     fn told(answer: Result<(), Fault>) -> [u32; 4] {
         match answer {
             Ok(()) => [0; 4],
-            Err(fault) => fault.numbers(),
+            Err(fault) => fault.into(),
         }
     }
 
     // The four numbers of the fault of power that is off, or zeros.
     pub fn power<D: Device>(d: &D) -> [u32; 4] {
-        match d.power() {
-            Power::On => [0; 4],
-            Power::Off(fault) => fault.numbers(),
-        }
+        told(d.power())
     }
 
     // Writes 512 equal bytes.
