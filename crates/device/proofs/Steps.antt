@@ -1,16 +1,9 @@
 -- From what stands in the way of a call to the call's relation, and back.
-use Rattle.std.proofs.Common.{◌≡◌, ℕ, ◌<◌, ◌≤◌, Bool, true, false, cond, ltb, ◌⊎◌, List, Some, None, Ok, Option, sym, refl, ap, ◌∙◌, subst, inl, inr, arith, ltb-false, ltb-true, lt-ltb}
+use Rattle.std.proofs.Common.{◌≡◌, ℕ, ◌<◌, Bool, cond, List, Some, None, Ok, Option, sym, ap, ◌∙◌, subst, lt-ltb}
 use Rattle.device.specs.declared.fault.Fault.{Fault}
 use Rattle.device.specs.Faults.{Answer, out_of_range}
 use Rattle.device.specs.Meaning.{Meaning, newest}
 use Rattle.device.specs.Calls.{ByFault, Reads, Writes, Flushes, Refused, Went, Accepted, standing, first_fault, power_fault, sick_fault, filled, settled, written}
-
-pub split : {P : Type 0} (b : Bool) → (b ≡ true → P) → (b ≡ false → P) → P
-split true t f = t refl
-split false t f = f refl
-
-pub apart : (t s : ℕ) → ¬ (t ≡ s) → (t < s) ⊎ (s < t)
-apart t s ne = split (ltb t s) (λ e. inl (ltb-true t s e)) (λ e. let h : s ≤ t = ltb-false t s e in inr (omega (arith, ne)))
 
 -- with the sector in range and power on, only sickness stands
 pub standing_is : (layer s : ℕ) (m : Meaning) (o : Option Fault) → s < m.size → m.power ≡ Ok tt → sick_fault (m.sector s) ≡ o → standing layer m s ≡ o
@@ -41,8 +34,3 @@ FlushWent m r n = Went m m.sector ((t : ℕ) → n.sector t ≡ settled (m.secto
 
 pub flushes_went : (m n : Meaning) (r : Answer) → m.power ≡ Ok tt → FlushWent m r n → Flushes m r n
 flushes_went m n r e w = by_none (λ f. Refused f m r n) (FlushWent m r n) (power_fault m.power) (ap power_fault e) w
-
-pub flushed_went : (m n : Meaning) (r : Answer) → m.power ≡ Ok tt → Flushes m r n → FlushWent m r n
-flushed_went m n r e w =
-    let P : Answer → Type 0 = λ p. ByFault (power_fault p) (λ f. Refused f m r n) (FlushWent m r n) in
-    subst P e w

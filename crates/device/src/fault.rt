@@ -42,6 +42,7 @@ impl From<Layer> for u32 {
 
 // What stands in the way of a call: why, at which sector of the layer where it arose (0 where power is lost),
 // which layer that is, and how many layers further down it lies.
+// A layer goes by its number here and in the calls below, and not by the enum: a device of others may stand below ours.
 #[derive(Clone, Copy, PartialEq, Eq, Debug)]
 pub struct Fault {
     pub cause: Cause,
