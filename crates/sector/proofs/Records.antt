@@ -1,51 +1,59 @@
 -- The layout: what is written part by part, what is read part by part, and that the bytes tell the record.
-use Rattle.std.proofs.Common.{◌≡◌, ℕ, suc, ◌+◌, ◌-◌, ◌*◌, ◌<◌, ◌≤◌, Bool, cond, eqb, List, [], ◌∷◌, ◌++◌, length, get_or, take, drop, set, Some, None, MatchBool, Option, sym, refl, ap, ◌∙◌, subst, ap₂, ⊎_elim, append_assoc, append-nil, add-one, arith, length-append, length-take-le, take_all, drop-drop, take-add, MatchOption}
+use Rattle.std.proofs.Common.{◌≡◌, ℕ, zero, suc, ◌+◌, ◌-◌, ◌<◌, ◌≤◌, Bool, cond, eqb, List, [], ◌∷◌, ◌++◌, length, get_or, take, drop, MatchBool, sym, refl, ap, ◌∙◌, subst, ap₂, ⊎_elim, append_assoc, append-nil, arith, length-append, length-take-le, take_all, drop-drop, take-add, MatchOption, Ok, Err, Result}
 use borrow.Rule.Slice.PartMut.{put_mid}
-use Rattle.std.proofs.lemmas.List.{take_at, drop_at, drop_all, length-drop, take-append-drop, get_or_append_left, get_or-take}
+use Rattle.std.proofs.lemmas.List.{take_at, drop_at, drop_all, length-drop, take-append-drop, get_or_append_left, get_or-take, get_or-drop}
 use Rattle.std.proofs.lemmas.Bool.Decides.{eqb_tells}
+use Rattle.std.proofs.lemmas.Nat.{le_bytes_2, le_bytes_4}
+use Rattle.std.proofs.lemmas.Simd.{length-chunk}
+use Rattle.std.specs.Int.{w16, w32, from_le_bytes}
 use Rattle.little_endian.specs.Little.{Bytes, le16, le32}
-use Rattle.little_endian.proofs.Little.{le16_of, le32_of, same_le16, same_le32}
+use Rattle.little_endian.proofs.Little.{same_le16, same_le32}
 use Rattle.little_endian.proofs.Parts.{spelled_is}
+use Rattle.std.specs.Result.{result_ok}
 use Rattle.sector.specs.Crc.{crc32}
 use Rattle.sector.specs.declared.layout.Kind.{Kind}
 use Rattle.sector.specs.declared.layout.Kind.TheVariants.{Header, Begin, Block, Trailer, Withdrawal, Opening}
+use Rattle.sector.specs.declared.layout.UnknownKind.{UnknownKind}
 use Rattle.sector.specs.declared.layout.Fields.{Fields}
-use Rattle.sector.specs.Layout.{kind_number, field_bytes, sealed, sector_bytes, payload_of, Fits, Sound, NoRecord}
+use Rattle.sector.specs.Layout.{kind_number, IsKindNumber, Decodes, field_bytes, sealed, sector_bytes, payload_of, Fits, Sound, NoRecord}
 
 -- a part of n elements was written at a
 pub put_is : (s ys zs : List ℕ) (a n : ℕ) → ys ≡ zs → put_mid a (a + n - a) s ys ≡ take a s ++ (zs ++ drop (a + n) s)
 put_is s ys zs a n e =
     ap₂ (λ (x y : List ℕ). take a s ++ (x ++ y)) e (drop-drop (a + n - a) a s ∙ ap (λ (m : ℕ). drop m s) (omega arith))
 
--- the first two bytes were written
-pub put_first : (s : List ℕ) (x y : ℕ) → 2 ≤ length s → set (set s 0 x) 1 y ≡ (x ∷ y ∷ []) ++ drop 2 s
-put_first [] x y h = absurd (omega arith)
-put_first (p ∷ []) x y h = absurd (omega arith)
-put_first (p ∷ q ∷ s) x y h = refl
-
 -- one more part was written, where what was written before it ends
-pub put_more : (s t u front ys : List ℕ) (a n : ℕ) → length front ≡ a → t ≡ front ++ drop a s → u ≡ take a t ++ (ys ++ drop (a + n) t)
-    → u ≡ (front ++ ys) ++ drop (a + n) s
-put_more s t u front ys a n l e eu =
+pub put_more : (s t u front ys zs : List ℕ) (a n : ℕ) → length front ≡ a → t ≡ front ++ drop a s → ys ≡ zs → u ≡ take a t ++ (ys ++ drop (a + n) t)
+    → u ≡ (front ++ zs) ++ drop (a + n) s
+put_more s t u front ys zs a n l e ez eu =
     let ef : take a t ≡ front = ap (take a) e ∙ take_at front (drop a s) a l in
     let ed : drop a t ≡ drop a s = ap (drop a) e ∙ drop_at front (drop a s) a l in
     eu
-    ∙ ap₂ (λ (x y : List ℕ). x ++ (ys ++ y)) ef (sym (drop-drop n a t) ∙ ap (drop n) ed ∙ drop-drop n a s)
-    ∙ sym (append_assoc front ys (drop (a + n) s))
+    ∙ ap (λ (x : List ℕ). take a t ++ (x ++ drop (a + n) t)) ez
+    ∙ ap₂ (λ (x y : List ℕ). x ++ (zs ++ y)) ef (sym (drop-drop n a t) ∙ ap (drop n) ed ∙ drop-drop n a s)
+    ∙ sym (append_assoc front zs (drop (a + n) s))
+
+-- the payload stands in its place
+pub payload_put : (s t p : List ℕ) → length s ≡ 512 → length t ≡ 512 → t ≡ take 28 s ++ (p ++ drop 508 s) → payload_of t ≡ p
+payload_put s t p ls lt e =
+    let long : length (take 28 s ++ (p ++ drop 508 s)) ≡ 512 = sym (ap length e) ∙ lt in
+    let parts = simp (length-append, length-drop) at long in
+    let front : length (take 28 s) ≡ 28 = length-take-le 28 s (omega arith) in
+    ap payload_of e ∙ ap (take 480) (drop_at (take 28 s) (p ++ drop 508 s) 28 front) ∙ take_at p (drop 508 s) 480 (omega arith)
 
 -- the numbers stand before the payload
 pub fields_put : (f : Fields) (s t : List ℕ) → t ≡ field_bytes f ++ drop 28 s → take 508 t ≡ field_bytes f ++ payload_of s
 unfolding field_bytes
 fields_put f s t e = ap (take 508) e
 
-pub check_put : (s t : List ℕ) (m : ℕ) → length s ≡ 512 → m ≡ crc32 (take 508 s) → t ≡ take 508 s ++ (le32 m ++ drop 512 s) → t ≡ sealed (take 508 s)
-check_put s t m l e et =
+pub check_put : (s t ys : List ℕ) (m : ℕ) → length s ≡ 512 → m ≡ crc32 (take 508 s) → ys ≡ le32 m → t ≡ take 508 s ++ (ys ++ drop 512 s) → t ≡ sealed (take 508 s)
+check_put s t ys m l e ey et =
     et
-    ∙ ap₂ (λ (x : ℕ) (y : List ℕ). take 508 s ++ (le32 x ++ y)) e (drop_all 512 s (omega arith))
+    ∙ ap₂ (λ (x y : List ℕ). take 508 s ++ (x ++ y)) (ey ∙ ap le32 e) (drop_all 512 s (omega arith))
     ∙ ap (λ (x : List ℕ). take 508 s ++ x) (append-nil (le32 (crc32 (take 508 s))))
 
 -- a sector of a known kind is sound once its check is written
-pub check_sound : (s t : List ℕ) → length s ≡ 512 → t ≡ sealed (take 508 s) → (1 ≤ get_or s 0 0) × (get_or s 0 0 ≤ 6) → Sound t
+pub check_sound : (s t : List ℕ) → length s ≡ 512 → t ≡ sealed (take 508 s) → IsKindNumber (get_or s 0 0) → Sound t
 check_sound s t l e k =
     let l508 : length (take 508 s) ≡ 508 = length-take-le 508 s (omega arith) in
     let first : get_or t 0 0 ≡ get_or s 0 0 =
@@ -57,20 +65,24 @@ check_sound s t l e k =
 glue : (s : List ℕ) (a m n : ℕ) → take m (drop a s) ++ take n (drop (a + m) s) ≡ take (m + n) (drop a s)
 glue s a m n = ap (λ (x : List ℕ). take m (drop a s) ++ take n x) (sym (drop-drop m a s)) ∙ sym (take-add m n (drop a s))
 
--- a number was read from its place
-pub read16 : (s : List ℕ) (a n : ℕ) → Bytes s → a + 2 ≤ length s → n ≡ get_or s a 0 + get_or s (a + 1) 0 * 256 → le16 n ≡ take 2 (drop a s)
-read16 s a n b h e =
-    le16_of n (get_or s a 0) (get_or s (suc a) 0) (b a) (b (suc a)) (e ∙ ap (λ (i : ℕ). get_or s a 0 + get_or s i 0 * 256) (add-one a)) ∙ spelled_is 2 a s h
+-- a part of bytes is bytes
+bytes_take : (m : ℕ) (xs : List ℕ) → Bytes xs → Bytes (take m xs)
+bytes_take zero xs h i = omega arith
+bytes_take (suc m) [] h i = omega arith
+bytes_take (suc m) (x ∷ xs) h zero = h 0
+bytes_take (suc m) (x ∷ xs) h (suc i) = bytes_take m xs (λ j. h (suc j)) i
 
-pub read32 : (s : List ℕ) (a n : ℕ) → Bytes s → a + 4 ≤ length s
-    → n ≡ get_or s a 0 + get_or s (a + 1) 0 * 256 + get_or s (a + 2) 0 * 65536 + get_or s (a + 3) 0 * 16777216 → le32 n ≡ take 4 (drop a s)
-read32 s a n b h e =
-    let e1 : a + 1 ≡ suc a = omega arith in
-    let e2 : a + 2 ≡ suc (suc a) = omega arith in
-    let e3 : a + 3 ≡ suc (suc (suc a)) = omega arith in
-    le32_of n (get_or s a 0) (get_or s (suc a) 0) (get_or s (suc (suc a)) 0) (get_or s (suc (suc (suc a))) 0) (b a) (b (suc a)) (b (suc (suc a))) (b (suc (suc (suc a))))
-    (e ∙ rw (e1, e2, e3))
-    ∙ spelled_is 4 a s h
+bytes_part : (s : List ℕ) (a m : ℕ) → Bytes s → Bytes (take m (drop a s))
+bytes_part s a m h = bytes_take m (drop a s) (λ i. rw get_or-drop (h (a + i)))
+
+-- a number that was read from a place has the bytes that stand there
+pub read16 : (s bs : List ℕ) (a n : ℕ) → Bytes s → a + 2 ≤ length s → bs ≡ take 2 (drop a s) → n ≡ from_le_bytes w16 bs → le16 n ≡ take 2 (drop a s)
+read16 s bs a n b h e en =
+    le_bytes_2 (take 2 (drop a s)) n (length-chunk a 2 s h) (bytes_part s a 2 b) (en ∙ ap (from_le_bytes w16) e)
+
+pub read32 : (s bs : List ℕ) (a n : ℕ) → Bytes s → a + 4 ≤ length s → bs ≡ take 4 (drop a s) → n ≡ from_le_bytes w32 bs → le32 n ≡ take 4 (drop a s)
+read32 s bs a n b h e en =
+    le_bytes_4 (take 4 (drop a s)) n (length-chunk a 4 s h) (bytes_part s a 4 b) (en ∙ ap (from_le_bytes w32) e)
 
 -- numbers that were read each from its place
 pub record ReadFrom (s : List ℕ) (f : Fields) : Type 0 where
@@ -179,7 +191,7 @@ unfolding field_bytes
 first_byte f p = refl
 
 -- the numbers that were written begin with a kind's
-pub known_put : (f : Fields) (rest t : List ℕ) → take 508 t ≡ field_bytes f ++ rest → (1 ≤ get_or t 0 0) × (get_or t 0 0 ≤ 6)
+pub known_put : (f : Fields) (rest t : List ℕ) → take 508 t ≡ field_bytes f ++ rest → IsKindNumber (get_or t 0 0)
 unfolding field_bytes
 known_put f rest t e =
     let b : get_or t 0 0 ≡ kind_number f.kind = sym (get_or-take 508 t 0 0 (omega arith)) ∙ ap (λ (x : List ℕ). get_or x 0 0) e in
@@ -188,7 +200,7 @@ known_put f rest t e =
     (omega arith, omega arith)
 
 -- the first byte is no kind's number
-pub no_kind : (s : List ℕ) → ((1 ≤ get_or s 0 0) × (get_or s 0 0 ≤ 6) → ⊥) → NoRecord s
+pub no_kind : (s : List ℕ) → (IsKindNumber (get_or s 0 0) → ⊥) → NoRecord s
 no_kind s h = (
   λ sound. h (sound.low, sound.high),
   λ f p fits e.
@@ -218,7 +230,7 @@ sealed_test s w m l hw hm ew em =
     (eqb_tells w m)
 
 -- the kind that the first byte names, or none
-pub kind_test : (s : List ℕ) (r : Option Kind) → MatchOption r ((1 ≤ get_or s 0 0) × (get_or s 0 0 ≤ 6) → ⊥) (λ k. (kind_number k ≡ get_or s 0 0) × (1 ≤ get_or s 0 0) × (get_or s 0 0 ≤ 6))
-    → MatchOption r (NoRecord s) (λ k. (kind_number k ≡ get_or s 0 0) × (1 ≤ get_or s 0 0) × (get_or s 0 0 ≤ 6))
-kind_test s None h = no_kind s h
-kind_test s (Some k) h = h
+pub kind_test : (s : List ℕ) (r : Result Kind UnknownKind) → Decodes (get_or s 0 0) r
+    → MatchOption (result_ok r) (NoRecord s) (λ k. (kind_number k ≡ get_or s 0 0) × IsKindNumber (get_or s 0 0))
+kind_test s (Ok k) h = h
+kind_test s (Err e) h = no_kind s h.1

@@ -1,9 +1,10 @@
 -- The 512 bytes of a sector: its numbers, its payload and its check.
-use Rattle.std.specs.Prelude.{◌≡◌, ℕ, ◌<◌, ◌≤◌, List, ◌∷◌, ◌++◌, length, take, drop, Some, None, Option, ◌≢◌, slice_index}
+use Rattle.std.specs.Prelude.{◌≡◌, ℕ, ◌<◌, ◌≤◌, List, ◌∷◌, ◌++◌, length, take, drop, Some, None, Option, ◌≢◌, slice_index, Result, MatchResult}
 use Rattle.little_endian.specs.Little.{le16, le32}
 use Rattle.sector.specs.Crc.{crc32}
 use Rattle.sector.specs.declared.layout.Kind.{Kind}
 use Rattle.sector.specs.declared.layout.Kind.TheVariants.{Header, Begin, Block, Trailer, Withdrawal, Opening}
+use Rattle.sector.specs.declared.layout.UnknownKind.{UnknownKind}
 use Rattle.sector.specs.declared.layout.Fields.{Fields}
 use Rattle.sector.specs.declared.layout.Record.{Record}
 
@@ -15,6 +16,14 @@ kind_number Block = 3
 kind_number Trailer = 4
 kind_number Withdrawal = 5
 kind_number Opening = 6
+
+-- the numbers that stand for kinds are those from 1 to 6
+abbrev pub IsKindNumber : ℕ → Type 0
+IsKindNumber n = (1 ≤ n) × (n ≤ 6)
+
+-- the answer to a number is the kind that it stands for; a number that stands for none is given back in an error
+abbrev pub Decodes : ℕ → Result Kind UnknownKind → Type 0
+Decodes n r = MatchResult r (λ k. (kind_number k ≡ n) × IsKindNumber n) (λ e. (e.0 ≡ n) × (IsKindNumber n → ⊥))
 
 -- bytes 0 to 27: kind, track, count, sitting number, own sector number, epoch, take, A and B
 unfoldable pub field_bytes : Fields → List ℕ

@@ -1,9 +1,10 @@
 // The layout of a sector: its numbers, its payload and its check, as 512 bytes and back.
 ghost use Rattle.std.specs.Prelude.{◌≡◌, ℕ, ◌+◌, ◌≤◌, List, ◌++◌, length, take, drop, Some, None, MatchBool, MatchOption, slice_index};
-ghost use Rattle.little_endian.specs.Little.{le16, le32};
-ghost use Rattle.sector.specs.Layout.{kind_number, field_bytes, sealed, sector_bytes, payload_of, Fits, Sound, NoRecord, Gives};
+ghost use Rattle.sector.specs.Layout.{kind_number, IsKindNumber, Decodes, field_bytes, sealed, sector_bytes, payload_of, Fits, Sound, NoRecord, Gives};
 
 use crate::crc::crc32;
+use std::error::Error;
+use std::fmt;
 
 // What a sector records.
 #[derive(Clone, Copy, PartialEq, Eq, Debug)]
@@ -16,29 +17,45 @@ pub enum Kind {
     Opening = 6,
 }
 
-impl Kind {
-    // The number that is stored for the kind.
-    pub fn number(self) -> u8
-        ensures { result ≡ kind_number self }
-    {
-        self as u8
-    }
+// The number that is stored for a kind.
+impl From<Kind> for u8 {
+    ghost from_gives = { λ kind number. number ≡ kind_number kind };
 
-    // The kind that a stored number stands for.
-    pub fn of(number: u8) -> Option<Kind>
-        ensures { MatchOption result ((1 ≤ number) × (number ≤ 6) → ⊥) (λ k. (kind_number k ≡ number) × (1 ≤ number) × (number ≤ 6)) }
-    {
+    fn from(kind: Kind) -> u8 {
+        kind as u8
+    }
+}
+
+// A number that stands for no kind.
+#[derive(Clone, Copy, PartialEq, Eq, Debug)]
+pub struct UnknownKind(pub u8);
+
+// The kind that a stored number stands for.
+impl TryFrom<u8> for Kind {
+    type Error = UnknownKind;
+
+    ghost try_from_gives = { Decodes };
+
+    fn try_from(number: u8) -> Result<Self, UnknownKind> {
         match number {
-            1 => Some(Kind::Header),
-            2 => Some(Kind::Begin),
-            3 => Some(Kind::Block),
-            4 => Some(Kind::Trailer),
-            5 => Some(Kind::Withdrawal),
-            6 => Some(Kind::Opening),
-            _ => None,
+            1 => Ok(Kind::Header),
+            2 => Ok(Kind::Begin),
+            3 => Ok(Kind::Block),
+            4 => Ok(Kind::Trailer),
+            5 => Ok(Kind::Withdrawal),
+            6 => Ok(Kind::Opening),
+            _ => Err(UnknownKind(number)),
         }
     }
 }
+
+impl fmt::Display for UnknownKind {
+    fn fmt<W: fmt::Write>(&self, f: &mut fmt::Formatter<W>) -> fmt::Result {
+        write!(f, "no kind of sector has the number {}", self.0)
+    }
+}
+
+impl Error for UnknownKind {}
 
 // The numbers of a sector, in the order in which they are stored. What `a` and `b` say depends on the kind.
 #[derive(Clone, Copy, PartialEq, Eq, Debug)]
@@ -65,11 +82,12 @@ pub struct Record<'a> {
 }
 
 // Writes the record and its check.
+#[tactic(auto, using(crate::proofs::Records::payload_put))]
 pub fn encode(record: Record<'_>, sector: &mut [u8; 512])
     ensures bytes { sector.new ≡ sector_bytes «record».entry.fields «record».entry.payload.now }
     ensures sound { Sound sector.new }
 {
-    put_payload(record.payload, sector);
+    put(sector, 28, record.payload);
     seal(record.fields, sector);
 }
 
@@ -82,52 +100,36 @@ pub fn seal(fields: Fields, sector: &mut [u8; 512])
     put_check(sector);
 }
 
-// Writes the payload into its place.
-fn put_payload(payload: &[u8; 480], sector: &mut [u8; 512])
-    ensures { payload_of sector.new ≡ payload.now }
-{
-    sector[28..508].copy_from_slice(payload);
-}
-
 // Writes the numbers before the payload.
 fn put_fields(fields: Fields, sector: &mut [u8; 512])
     ensures body { take 508 sector.new ≡ field_bytes fields ++ payload_of sector.old }
-    ensures known { (1 ≤ slice_index sector.new 0) × (slice_index sector.new 0 ≤ 6) }
+    ensures known { IsKindNumber (slice_index sector.new 0) }
 {
-    sector[0] = fields.kind.number();
-    sector[1] = fields.track;
-    put_u16(sector, 2, fields.count);
-    put_u32(sector, 4, fields.sitting);
-    put_u32(sector, 8, fields.place);
-    put_u32(sector, 12, fields.epoch);
-    put_u32(sector, 16, fields.take);
-    put_u32(sector, 20, fields.a);
-    put_u32(sector, 24, fields.b);
+    put(sector, 0, &[fields.kind.into(), fields.track]);
+    put(sector, 2, &fields.count.to_le_bytes());
+    put(sector, 4, &fields.sitting.to_le_bytes());
+    put(sector, 8, &fields.place.to_le_bytes());
+    put(sector, 12, &fields.epoch.to_le_bytes());
+    put(sector, 16, &fields.take.to_le_bytes());
+    put(sector, 20, &fields.a.to_le_bytes());
+    put(sector, 24, &fields.b.to_le_bytes());
 }
 
 // Writes the check behind the bytes that it is of.
 fn put_check(sector: &mut [u8; 512])
     ensures bytes { sector.new ≡ sealed (take 508 sector.old) }
-    ensures sound { (1 ≤ slice_index sector.old 0) × (slice_index sector.old 0 ≤ 6) → Sound sector.new }
+    ensures sound { IsKindNumber (slice_index sector.old 0) → Sound sector.new }
 {
     let check = crc32(&sector[..508]);
-    put_u32(sector, 508, check);
+    put(sector, 508, &check.to_le_bytes());
 }
 
-// Writes a number of two bytes at a place.
-fn put_u16(sector: &mut [u8; 512], at: usize, number: u16)
-    requires { at ≤ 510 }
-    ensures { sector.new ≡ take at sector.old ++ (le16 number ++ drop (at + 2) sector.old) }
+// Writes bytes at a place.
+fn put<const N: usize>(sector: &mut [u8; 512], at: usize, bytes: &[u8; N])
+    requires { at + N ≤ 512 }
+    ensures { sector.new ≡ take at sector.old ++ (bytes.now ++ drop (at + N) sector.old) }
 {
-    sector[at..at + 2].copy_from_slice(&number.to_le_bytes());
-}
-
-// Writes a number of four bytes at a place.
-fn put_u32(sector: &mut [u8; 512], at: usize, number: u32)
-    requires { at ≤ 508 }
-    ensures { sector.new ≡ take at sector.old ++ (le32 number ++ drop (at + 4) sector.old) }
-{
-    sector[at..at + 4].copy_from_slice(&number.to_le_bytes());
+    sector[at..at + N].copy_from_slice(bytes);
 }
 
 // The record of a sound sector. Any other has none.
@@ -137,48 +139,30 @@ pub fn decode(sector: &[u8; 512]) -> Option<Record<'_>>
     ensures back { (f : Fields) (p : List ℕ) → Fits f p → sector.now ≡ sector_bytes f p → Gives f p result }
 {
     let kind = kind_at(sector)?;
-    if !is_sealed(sector) {
-        return None;
-    }
-    Some(unpack(kind, sector))
+    is_sealed(sector).then(|| unpack(kind, sector))
 }
 
 // The kind that the first byte names, or none.
 fn kind_at(sector: &[u8; 512]) -> Option<Kind>
-    ensures { MatchOption result (NoRecord sector.now) (λ k. (kind_number k ≡ slice_index sector.now 0) × (1 ≤ slice_index sector.now 0) × (slice_index sector.now 0 ≤ 6)) }
+    ensures { MatchOption result (NoRecord sector.now) (λ k. (kind_number k ≡ slice_index sector.now 0) × IsKindNumber (slice_index sector.now 0)) }
 {
-    Kind::of(sector[0])
+    Kind::try_from(sector[0]).ok()
 }
 
 // Whether the last four bytes are the check of the others.
 fn is_sealed(sector: &[u8; 512]) -> bool
     ensures { MatchBool result (sector.now ≡ sealed (take 508 sector.now)) (NoRecord sector.now) }
 {
-    u32_at(sector, 508) == crc32(&sector[..508])
+    u32::from_le_bytes(*bytes_at(sector, 508)) == crc32(&sector[..508])
 }
 
-// The number whose two bytes stand at a place.
-fn u16_at(sector: &[u8; 512], at: usize) -> u16
-    requires { at ≤ 510 }
-    ensures { le16 result ≡ take 2 (drop at sector.now) }
+// The bytes at a place.
+fn bytes_at<const N: usize>(sector: &[u8; 512], at: usize) -> &[u8; N]
+    requires { at + N ≤ 512 }
+    ensures value { result.now ≡ take N (drop at sector.now) }
+    ensures len { length result.now ≡ N }
 {
-    u16::from_le_bytes([sector[at], sector[at + 1]])
-}
-
-// The number whose four bytes stand at a place.
-fn u32_at(sector: &[u8; 512], at: usize) -> u32
-    requires { at ≤ 508 }
-    ensures { le32 result ≡ take 4 (drop at sector.now) }
-{
-    u32::from_le_bytes([sector[at], sector[at + 1], sector[at + 2], sector[at + 3]])
-}
-
-// The payload where it stands.
-fn payload_of(sector: &[u8; 512]) -> &[u8; 480]
-    ensures value { result.now ≡ payload_of sector.now }
-    ensures len { length result.now ≡ 480 }
-{
-    sector[28..508].first_chunk::<480>().unwrap()
+    sector[at..].first_chunk().unwrap()
 }
 
 // The record of a sector whose kind is known.
@@ -191,14 +175,14 @@ fn unpack(kind: Kind, sector: &[u8; 512]) -> Record<'_>
         fields: Fields {
             kind,
             track: sector[1],
-            count: u16_at(sector, 2),
-            sitting: u32_at(sector, 4),
-            place: u32_at(sector, 8),
-            epoch: u32_at(sector, 12),
-            take: u32_at(sector, 16),
-            a: u32_at(sector, 20),
-            b: u32_at(sector, 24),
+            count: u16::from_le_bytes(*bytes_at(sector, 2)),
+            sitting: u32::from_le_bytes(*bytes_at(sector, 4)),
+            place: u32::from_le_bytes(*bytes_at(sector, 8)),
+            epoch: u32::from_le_bytes(*bytes_at(sector, 12)),
+            take: u32::from_le_bytes(*bytes_at(sector, 16)),
+            a: u32::from_le_bytes(*bytes_at(sector, 20)),
+            b: u32::from_le_bytes(*bytes_at(sector, 24)),
         },
-        payload: payload_of(sector),
+        payload: bytes_at(sector, 28),
     }
 }

@@ -6,4 +6,4 @@ pub mod layout;
 mod tables;
 
 pub use crc::crc32;
-pub use layout::{Fields, Kind, Record, decode, encode, seal};
+pub use layout::{Fields, Kind, Record, UnknownKind, decode, encode, seal};
