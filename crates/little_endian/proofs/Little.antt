@@ -13,6 +13,10 @@ abbrev pub number : List ℕ → ℕ
 number [] = 0
 number (b ∷ bs) = b + number bs * 256
 
+pub length_little : (k n : ℕ) → length (little k n) ≡ k
+length_little zero n = refl
+length_little (suc k) n = ap (λ (m : ℕ). suc m) (length_little k (n / 256))
+
 pub number_little : (k n : ℕ) → n < 256 ^ k → number (little k n) ≡ n
 number_little zero n h = omega arith
 number_little (suc k) n h =
@@ -59,7 +63,7 @@ bytes_append [] ys hx hy i = hy i
 bytes_append (x ∷ xs) ys hx hy zero = hx 0
 bytes_append (x ∷ xs) ys hx hy (suc i) = bytes_append xs ys (λ j. hx (suc j)) hy i
 
-bytes_little : (k n : ℕ) → Bytes (little k n)
+pub bytes_little : (k n : ℕ) → Bytes (little k n)
 bytes_little zero n = bytes_none
 bytes_little (suc k) n = bytes_cons (n % 256) (little k (n / 256)) (omega arith) (bytes_little k (n / 256))
 

@@ -1,12 +1,12 @@
 -- The loops over bytes, over chunks and over the words of the window, and the end.
-use Rattle.std.proofs.Common.{◌≡◌, ℕ, zero, suc, ◌+◌, ◌-◌, ◌*◌, ◌/◌, ◌%◌, ◌<◌, ◌≤◌, List, [], ◌∷◌, ◌++◌, length, get_or, take, drop, sym, ap, ◌∙◌, ap₂, append_assoc, append-nil, suc-mul, add_comm, zero-mul, arith, length-append, length-take-le, drop-drop}
-use lib.Bits.{bit_xor, xor_comm}
+use Rattle.std.proofs.Common.{◌≡◌, ℕ, zero, suc, ◌+◌, ◌*◌, ◌/◌, ◌%◌, ◌<◌, ◌≤◌, List, [], ◌∷◌, ◌++◌, length, get_or, take, drop, take_all, sym, ap, ◌∙◌, ap₂, append_assoc, append-nil, suc-mul, add_comm, zero-mul, arith, length-append, drop-drop}
+use lib.Bits.{bit_xor, xor_comm, xor_zero_l, xor_zero_r}
 use Rattle.std.specs.Simd.{first_chunks}
 use Rattle.std.specs.List.{flat_map}
 use Rattle.std.proofs.lemmas.List.{at_drop_more, at_drop_all, take-append-drop, drop_all}
+use Rattle.little_endian.proofs.Parts.{spelled, spelled_is}
 use Rattle.sector.specs.Crc.{steps, register}
-use Rattle.sector.specs.declared.crc.Window.{Window}
-use Rattle.sector.specs.Window.{above, value, Loads}
+use Rattle.sector.specs.Window.{above, value, Loads, Takes}
 use Rattle.sector.proofs.Slices.{register_append}
 use Rattle.sector.proofs.Window.{leaves, low_xor}
 
@@ -63,49 +63,50 @@ word_more xss back i d c e w r h long hc step inv =
 pub word_all : (xss : List (List ℕ)) (back : List ℕ) (i c r : ℕ) → length xss ≤ i → register c (flat (drop i xss) ++ back) ≡ r → register c back ≡ r
 word_all xss back i c r h inv = sym (at_drop_all (λ ys. register c (flat ys ++ back)) xss i h) ∙ inv
 
--- the words and what is after them are all the bytes
-pub whole : (xs : List ℕ) (mid : ℕ) (front : List (List ℕ)) → mid ≤ length xs → mid % 8 ≡ 0 → front ≡ first_chunks 8 (length (take mid xs) / 8) (take mid xs)
-    → flat front ++ drop mid xs ≡ xs
-whole xs mid front h m ef =
-    let l : length (take mid xs) ≡ mid = length-take-le mid xs h in
-    let z : drop (length (take mid xs) / 8 * 8) (take mid xs) ≡ [] = drop_all _ (take mid xs) (omega arith) in
-    let j : flat front ≡ take mid xs =
-    sym (append-nil (flat front)) ∙ ap₂ (λ (x : List (List ℕ)) (y : List ℕ). flat x ++ y) ef (sym z) ∙ flat_chunked 8 (length (take mid xs) / 8) (take mid xs) in
-    ap (λ (x : List ℕ). x ++ drop mid xs) j ∙ take-append-drop mid xs
+-- whole words are all the bytes
+pub whole : (xs : List ℕ) (front : List (List ℕ)) → length xs % 8 ≡ 0 → front ≡ first_chunks 8 (length xs / 8) xs → flat front ≡ xs
+whole xs front m ef =
+    let z : drop (length xs / 8 * 8) xs ≡ [] = drop_all _ xs (omega arith) in
+    sym (append-nil (flat front)) ∙ ap₂ (λ (x : List (List ℕ)) (y : List ℕ). flat x ++ y) ef (sym z) ∙ flat_chunked 8 (length xs / 8) xs
 
--- one word of the end
-end_word : (a b s : ℕ) (xs : List ℕ) (w c : ℕ) → Loads (take 8 xs) w → c ≡ steps 64 (bit_xor a w)
-    → register (above a (above b s)) xs ≡ register (above (bit_xor b c) s) (drop 8 xs)
-end_word a b s xs w c hc e =
-    ap (register (above a (above b s))) (sym (take-append-drop 8 xs)) ∙ leaves a (above b s) (take 8 xs) (drop 8 xs) w hc
-    ∙ ap (λ (x : ℕ). register x (drop 8 xs)) (ap (λ (x : ℕ). bit_xor x (above b s)) (sym e) ∙ xor_comm c (above b s) ∙ low_xor b s c)
+-- a word of the end, where c has left the words below it
+pub word_leaves : (a c w e : ℕ) (chunk : List ℕ) → Loads chunk w → e ≡ steps 64 (bit_xor (bit_xor a c) w) → Takes a c chunk e
+word_leaves a c w e chunk loads is s rest =
+    ap (λ (x : ℕ). register x (chunk ++ rest)) (xor_comm c (above a s) ∙ low_xor a s c) ∙ leaves (bit_xor a c) s chunk rest w loads
+    ∙ ap (λ (x : ℕ). register (bit_xor x s) rest) (sym is)
 
-pub finish_is : (h : Window) (back : List ℕ) (front : List (List ℕ)) (w0 w1 w2 w3 w4 c0 c1 c2 c3 c4 r : ℕ) (d : List ℕ)
-    → 40 ≤ length back → front ≡ first_chunks 8 (length back / 8) back
-    → Loads (get_or front 0 d) w0 → Loads (get_or front 1 d) w1 → Loads (get_or front 2 d) w2 → Loads (get_or front 3 d) w3 → Loads (get_or front 4 d) w4
-    → c0 ≡ steps 64 (bit_xor h.a w0) → c1 ≡ steps 64 (bit_xor (bit_xor h.b c0) w1) → c2 ≡ steps 64 (bit_xor (bit_xor h.c c1) w2)
-    → c3 ≡ steps 64 (bit_xor (bit_xor h.d c2) w3) → c4 ≡ steps 64 (bit_xor (bit_xor h.e c3) w4)
-    → r ≡ register c4 (drop 40 back) → r ≡ register (value h) back
-unfolding value
-finish_is h back front w0 w1 w2 w3 w4 c0 c1 c2 c3 c4 r d long ef h0 h1 h2 h3 h4 e0 e1 e2 e3 e4 er =
-    let m : ℕ = length back / 8 - 5 in
-    let n : length back / 8 ≡ suc (suc (suc (suc (suc (length back / 8 - 5))))) = omega arith in
-    let f : front ≡ first_chunks 8 (suc (suc (suc (suc (suc m))))) back = ef ∙ ap (λ (k : ℕ). first_chunks 8 k back) n in
-    let g : (i : ℕ) (w : ℕ) → Loads (get_or front i d) w → Loads (get_or (first_chunks 8 (suc (suc (suc (suc (suc m))))) back) i d) w =
-    λ i w q k. ap (λ (x : List (List ℕ)). register k (get_or x i d)) (sym f) ∙ q k in
-    let b1 : List ℕ = drop 8 back in
-    let b2 : List ℕ = drop 8 b1 in
-    let b3 : List ℕ = drop 8 b2 in
-    let b4 : List ℕ = drop 8 b3 in
-    er
-    ∙ ap₂ register e4
-    (sym (ap (λ (x : List ℕ). drop 8 (drop 8 (drop 8 x))) (drop-drop 8 8 back) ∙ ap (λ (x : List ℕ). drop 8 (drop 8 x)) (drop-drop 8 16 back) ∙ ap (drop 8) (drop-drop 8 24 back) ∙ drop-drop 8 32 back))
-    ∙ sym
-    (end_word h.a h.b (above h.c (above h.d h.e)) back w0 c0 (g 0 w0 h0) e0
-    ∙ end_word (bit_xor h.b c0) h.c (above h.d h.e) b1 w1 c1 (g 1 w1 h1) e1
-    ∙ end_word (bit_xor h.c c1) h.d h.e b2 w2 c2 (g 2 w2 h2) e2
-    ∙ ap (register (above (bit_xor h.d c2) h.e)) (sym (take-append-drop 8 b3))
-    ∙ leaves (bit_xor h.d c2) h.e (take 8 b3) b4 w3 (g 3 w3 h3)
-    ∙ ap (λ (x : ℕ). register x b4) (ap (λ (x : ℕ). bit_xor x h.e) (sym e3) ∙ xor_comm c3 h.e)
-    ∙ ap (register (bit_xor h.e c3)) (sym (take-append-drop 8 b4)) ∙ register_append (take 8 b4) (drop 8 b4) (bit_xor h.e c3)
-    ∙ ap (λ (x : ℕ). register x (drop 8 b4)) (g 4 w4 h4 (bit_xor h.e c3)))
+-- a chunk and what follows it
+chunk_is : (n k i : ℕ) (xs d : List ℕ) → i < k → get_or (first_chunks n k xs) i d ≡ take n (drop (i * n) xs)
+chunk_is n zero i xs d h = absurd (omega arith)
+chunk_is n (suc k) zero xs d h = sym (ap (λ (m : ℕ). take n (drop m xs)) (zero-mul n))
+chunk_is n (suc k) (suc i) xs d h =
+    chunk_is n k i (drop n xs) d (omega arith) ∙ ap (take n) (drop-drop (i * n) n xs ∙ ap (λ (m : ℕ). drop m xs) (add_comm n (i * n) ∙ sym (suc-mul i n)))
+
+chunk_first : (k i : ℕ) (xs d : List ℕ) → i < k → get_or (first_chunks 8 k xs) i d ++ drop ((i + 1) * 8) xs ≡ drop (i * 8) xs
+chunk_first k i xs d h =
+    ap₂ ◌++◌ (chunk_is 8 k i xs d h) (ap (λ (m : ℕ). drop m xs) (omega arith) ∙ sym (drop-drop 8 (i * 8) xs)) ∙ take-append-drop 8 (drop (i * 8) xs)
+
+-- the words of the window and the last bytes
+module _ (back : List ℕ) (front : List (List ℕ)) (d : List ℕ) (cut : front ≡ first_chunks 8 (length back / 8) back) where
+  one_word : (i a c e v : ℕ) → i < length back / 8 → Takes a c (get_or front i d) e
+      → register (bit_xor c (above a v)) (drop (i * 8) back) ≡ register (bit_xor e v) (drop ((i + 1) * 8) back)
+  one_word i a c e v h takes =
+      ap (register (bit_xor c (above a v)))
+      (sym (ap (λ (xss : List (List ℕ)). get_or xss i d ++ drop ((i + 1) * 8) back) cut ∙ chunk_first (length back / 8) i back d h))
+      ∙ takes v (drop ((i + 1) * 8) back)
+
+  pub finish_is : (s : List ℕ) (c0 c1 c2 c3 c4 r : ℕ) → length s ≡ 5 → 40 ≤ length back → Takes (get_or s 0 0) 0 (get_or front 0 d) c0
+      → Takes (get_or s 1 0) c0 (get_or front 1 d) c1 → Takes (get_or s 2 0) c1 (get_or front 2 d) c2 → Takes (get_or s 3 0) c2 (get_or front 3 d) c3
+      → Takes (get_or s 4 0) c3 (get_or front 4 d) c4 → r ≡ register c4 (drop 40 back) → r ≡ register (value s) back
+  unfolding value
+  finish_is s c0 c1 c2 c3 c4 r five long t0 t1 t2 t3 t4 er =
+      er
+      ∙ sym
+      (ap (λ (z : List ℕ). register (value z) back) (sym (spelled_is 5 0 s (omega arith) ∙ take_all 5 s (omega arith)))
+      ∙ ap (λ (x : ℕ). register x back) (sym (xor_zero_l (value (spelled 5 0 s))))
+      ∙ one_word 0 (get_or s 0 0) 0 c0 (value (spelled 4 1 s)) (omega arith) t0
+      ∙ one_word 1 (get_or s 1 0) c0 c1 (value (spelled 3 2 s)) (omega arith) t1
+      ∙ one_word 2 (get_or s 2 0) c1 c2 (value (spelled 2 3 s)) (omega arith) t2
+      ∙ one_word 3 (get_or s 3 0) c2 c3 (value (spelled 1 4 s)) (omega arith) t3
+      ∙ one_word 4 (get_or s 4 0) c3 c4 0 (omega arith) t4
+      ∙ ap (λ (x : ℕ). register x (drop 40 back)) (xor_zero_r c4))

@@ -1,15 +1,20 @@
 -- Several bytes at once: the register after them is a sum, by exclusive or, of steps of each.
-use Rattle.std.proofs.Common.{◌≡◌, ℕ, zero, suc, ◌+◌, ◌*◌, ◌/◌, ◌%◌, List, [], ◌∷◌, ◌++◌, length, sym, refl, ap, ◌∙◌, add_comm, div-add-mod', arith}
-use lib.Bits.{bit_xor, xor_comm, xor_assoc, xor_zero_r, xor_shifted}
+use Rattle.std.proofs.Common.{◌≡◌, ℕ, zero, suc, ◌+◌, ◌*◌, ◌/◌, ◌%◌, ◌<◌, ◌≤◌, ◌-◌, List, [], ◌∷◌, ◌++◌, length, length-drop, drop, get_or, sym, refl, ap, ◌∙◌, ap₂, ◌^◌, add_comm, div-add-mod', arith}
+use lib.Bits.{bit_xor, xor_comm, xor_assoc, xor_zero_l, xor_zero_r, xor_shifted}
+use Rattle.std.proofs.lemmas.List.{at_drop_more, at_drop_all}
 use Rattle.little_endian.specs.Little.{Bytes}
-use Rattle.little_endian.proofs.Little.{number}
+use Rattle.little_endian.proofs.Little.{little, number, number_little, length_little, bytes_little}
 use Rattle.sector.specs.Crc.{steps, register}
-use Rattle.sector.proofs.Linear.{steps_xor, steps_shift, steps_add, steps_zero}
+use Rattle.sector.proofs.Linear.{steps_xor, steps_shift, steps_add}
 
 -- the bits of m bytes and j more
 abbrev pub bits : ℕ → ℕ → ℕ
 bits zero j = j
 bits (suc m) j = 8 + bits m j
+
+pub bits_is : (n : ℕ) → bits n 0 ≡ 8 * n
+bits_is zero = refl
+bits_is (suc n) = let e = bits_is n in omega arith
 
 -- the lowest byte leaves by itself
 pub peel : (n z : ℕ) → steps (8 + n) z ≡ bit_xor (steps (8 + n) (z % 256)) (steps n (z / 256))
@@ -18,28 +23,6 @@ peel n z =
     ∙ steps_xor (8 + n) (z / 256 * 256) (z % 256)
     ∙ ap (λ (x : ℕ). bit_xor x (steps (8 + n) (z % 256))) (steps_add 8 n (z / 256 * 256) ∙ ap (steps n) (steps_shift 8 (z / 256)))
     ∙ xor_comm (steps n (z / 256)) (steps (8 + n) (z % 256))
-
--- a register's m lowest bytes, each by its own steps, added to x
-abbrev pub spread : ℕ → ℕ → ℕ → ℕ
-spread x zero z = x
-spread x (suc m) z = spread (bit_xor x (steps (8 + bits m 0) (z % 256))) m (z / 256)
-
--- what is left of a register above its m lowest bytes
-abbrev pub beyond : ℕ → ℕ → ℕ
-beyond zero z = z
-beyond (suc m) z = beyond m (z / 256)
-
-spread_is : (x m z : ℕ) → bit_xor (spread x m z) (steps 0 (beyond m z)) ≡ bit_xor x (steps (bits m 0) z)
-spread_is x zero z = refl
-spread_is x (suc m) z =
-    spread_is (bit_xor x (steps (8 + bits m 0) (z % 256))) m (z / 256)
-    ∙ xor_assoc x (steps (8 + bits m 0) (z % 256)) (steps (bits m 0) (z / 256))
-    ∙ ap (bit_xor x) (sym (peel (bits m 0) z))
-
--- a register of m bytes, each by its table
-pub spread_all : (m z : ℕ) → beyond m z ≡ 0 → spread 0 m z ≡ steps (bits m 0) z
-spread_all m z gone =
-    sym (xor_zero_r (spread 0 m z)) ∙ ap (bit_xor (spread 0 m z)) (sym (ap (steps 0) gone ∙ steps_zero 0)) ∙ spread_is 0 m z
 
 -- the register after bytes: its own steps, and what the bytes give over another register
 pub register_xor : (bs : List ℕ) (c d : ℕ) → register (bit_xor c d) bs ≡ bit_xor (steps (bits (length bs) 0) c) (register d bs)
@@ -50,6 +33,30 @@ register_xor (b ∷ bs) c d =
     ∙ ap (λ (x : ℕ). register x bs) (steps_xor 8 c (bit_xor d b))
     ∙ register_xor bs (steps 8 c) (steps 8 (bit_xor d b))
     ∙ ap (λ (x : ℕ). bit_xor x (register (steps 8 (bit_xor d b)) bs)) (sym (steps_add 8 (bits (length bs) 0) c))
+
+-- the first byte gives what its own steps give, and the others the rest
+register_first : (b : ℕ) (bs : List ℕ) → register 0 (b ∷ bs) ≡ bit_xor (steps (8 + 8 * length bs) b) (register 0 bs)
+unfolding register steps
+register_first b bs =
+    ap (λ (x : ℕ). register (steps 8 x) bs) (xor_zero_l b) ∙ ap (λ (x : ℕ). register x bs) (sym (xor_zero_r (steps 8 b)))
+    ∙ register_xor bs (steps 8 b) 0
+    ∙ ap (λ (x : ℕ). bit_xor x (register 0 bs)) (sym (steps_add 8 (bits (length bs) 0) b) ∙ ap (λ (n : ℕ). steps (8 + n) b) (bits_is (length bs)))
+
+-- one byte more was taken from its table
+pub shift_more : (xs : List ℕ) (i t c e r : ℕ) → i < length xs → t ≡ length xs - 1 - i → e ≡ steps (8 + 8 * t) (get_or xs i 0)
+    → bit_xor c (register 0 (drop i xs)) ≡ r → bit_xor (bit_xor c e) (register 0 (drop (i + 1) xs)) ≡ r
+shift_more xs i t c e r h et ee inv =
+    let rest : List ℕ = drop (i + 1) xs in
+    let n : t ≡ length (drop (i + 1) xs) = simp length-drop (omega arith) in
+    xor_assoc c e (register 0 rest)
+    ∙ ap (bit_xor c)
+    (ap (λ (x : ℕ). bit_xor x (register 0 rest)) (ee ∙ ap (λ (k : ℕ). steps (8 + 8 * k) (get_or xs i 0)) n)
+    ∙ sym (register_first (get_or xs i 0) rest) ∙ sym (at_drop_more (register 0) xs i 0 h))
+    ∙ inv
+
+pub shift_all : (xs : List ℕ) (i c r : ℕ) → length xs ≤ i → bit_xor c (register 0 (drop i xs)) ≡ r → c ≡ r
+unfolding register
+shift_all xs i c r h inv = sym (xor_zero_r c) ∙ sym (at_drop_all (λ ys. bit_xor c (register 0 ys)) xs i h) ∙ inv
 
 pub register_append : (xs bs : List ℕ) (c : ℕ) → register c (xs ++ bs) ≡ register (register c xs) bs
 unfolding register
@@ -70,3 +77,9 @@ register_number (b ∷ bs) c h =
     ∙ sym (steps_xor 8 (bit_xor c b) (number bs * 256))
     ∙ ap (steps 8) (sym (aside c (number bs * 256) b) ∙ ap (bit_xor c) (xor_shifted (number bs) 8 b (h 0) ∙ add_comm (number bs * 256) b)))
     ∙ sym (steps_add 8 (bits (length bs) 0) (bit_xor c (b + number bs * 256)))
+
+-- the register after the bytes of a number, from 0
+pub register_little : (k z : ℕ) → z < 256 ^ k → register 0 (little k z) ≡ steps (bits k 0) z
+register_little k z h =
+    register_number (little k z) 0 (bytes_little k z)
+    ∙ ap₂ (λ (n x : ℕ). steps (bits n 0) x) (length_little k z) (xor_zero_l (number (little k z)) ∙ number_little k z h)

@@ -1,12 +1,12 @@
 -- A word that leaves the window and its shares in the words above give the same register.
-use Rattle.std.proofs.Common.{◌≡◌, ℕ, zero, suc, ◌+◌, ◌-◌, ◌*◌, ◌/◌, ◌%◌, ◌^◌, ◌<◌, ◌≤◌, Bool, true, ◌&&◌, T, eqb, List, ◌++◌, length, sym, refl, ap, ◌∙◌, subst, ap₂, add-zero, mod-lt, mul_comm, div-lt_iff_lt-mul, one-mul, pow-suc, div-add-mod', zero-mul, arith, eqb→eq, pow_pos}
-use lib.Bits.{bit_xor, xor_comm, xor_assoc, xor_zero_r, xor_shr, xor_mod, xor_block, xor_shifted, xor_lt}
+use Rattle.std.proofs.Common.{◌≡◌, ℕ, zero, suc, ◌+◌, ◌-◌, ◌*◌, ◌/◌, ◌%◌, ◌^◌, ◌<◌, ◌≤◌, Bool, true, ◌&&◌, T, eqb, List, [], ◌∷◌, ◌++◌, length, get_or, take_all, sym, refl, ap, ◌∙◌, subst, ap₂, add-zero, mod-lt, mul_comm, div-lt_iff_lt-mul, one-mul, pow-suc, div-add-mod', zero-mul, arith, eqb→eq, pow_pos}
+use lib.Bits.{bit_xor, xor_comm, xor_assoc, xor_zero_l, xor_zero_r, xor_shr, xor_mod, xor_block, xor_shifted, xor_lt}
+use Rattle.little_endian.proofs.Parts.{spelled, spelled_is}
 use Rattle.sector.specs.Crc.{step, steps, register}
-use Rattle.sector.specs.declared.crc.Window.{Window}
 use Rattle.sector.specs.Window.{above, value, Loads}
 use Rattle.sector.proofs.Table.{and_left, and_right}
 use Rattle.sector.proofs.Linear.{xor_mid, steps_xor, steps_shift, steps_add}
-use Rattle.sector.proofs.Slices.{bits, register_xor, register_append}
+use Rattle.sector.proofs.Slices.{bits, bits_is, register_xor, register_append}
 
 -- a function that is linear over exclusive or
 abbrev Linear : (ℕ → ℕ) → Type 0
@@ -31,6 +31,16 @@ linear_above f g hf hg = linear_xor f (λ x. g x * 2 ^ 64) hf (λ x y. ap (λ (n
 above_xor : (a b c d : ℕ) → bit_xor (above a b) (above c d) ≡ above (bit_xor a c) (bit_xor b d)
 above_xor a b c d = xor_mid a (b * 2 ^ 64) c (d * 2 ^ 64) ∙ ap (bit_xor (bit_xor a c)) (sym (times_xor 64 b d))
 
+-- windows of five words are added word by word
+value_xor : (a b c d e p q r s t : ℕ) → bit_xor (value (a ∷ b ∷ c ∷ d ∷ e ∷ [])) (value (p ∷ q ∷ r ∷ s ∷ t ∷ []))
+    ≡ value (bit_xor a p ∷ bit_xor b q ∷ bit_xor c r ∷ bit_xor d s ∷ bit_xor e t ∷ [])
+unfolding value
+value_xor a b c d e p q r s t =
+    above_xor a _ p _
+    ∙ ap (above (bit_xor a p))
+    (above_xor b _ q _
+    ∙ ap (above (bit_xor b q)) (above_xor c _ r _ ∙ ap (above (bit_xor c r)) (above_xor d _ s _ ∙ ap (above (bit_xor d s)) (above_xor e 0 t 0))))
+
 -- What a word x that leaves adds to the four words that then follow the lowest: modulo the polynomial,
 -- x moved up by 0 bits is the sum of x moved up by 145, 183, 211 and 300 bits.
 unfoldable pub share1 : ℕ → ℕ
@@ -46,21 +56,23 @@ unfoldable pub share4 : ℕ → ℕ
 share4 x = x / 2 ^ 20
 
 -- the window after its lowest word has left as x
-unfoldable pub advanced : Window → ℕ → Window
-advanced s x = record { a = s.b; b = bit_xor s.c (share1 x); c = bit_xor s.d (share2 x); d = bit_xor s.e (share3 x); e = share4 x }
+unfoldable pub advanced : List ℕ → ℕ → List ℕ
+advanced s x =
+    get_or s 1 0 ∷ bit_xor (get_or s 2 0) (share1 x) ∷ bit_xor (get_or s 3 0) (share2 x) ∷ bit_xor (get_or s 4 0) (share3 x) ∷ share4 x ∷ []
 
 -- all shares of a word, as one number
 unfoldable shares : ℕ → ℕ
-shares x = above 0 (above (share1 x) (above (share2 x) (above (share3 x) (share4 x))))
+shares x = above 0 (above (share1 x) (above (share2 x) (above (share3 x) (above (share4 x) 0))))
 
 shares_xor : Linear shares
 unfolding shares share1 share2 share3 share4
 shares_xor =
-    linear_above (λ x. 0) (λ x. above (share1 x) (above (share2 x) (above (share3 x) (share4 x)))) (λ x y. refl)
-    (linear_above share1 (λ x. above (share2 x) (above (share3 x) (share4 x))) (linear_xor (λ x. x * 2 ^ 17 % 2 ^ 64) (λ x. x * 2 ^ 55 % 2 ^ 64) (linear_shl 17) (linear_shl 55))
-    (linear_above share2 (λ x. above (share3 x) (share4 x))
+    linear_above (λ x. 0) (λ x. above (share1 x) (above (share2 x) (above (share3 x) (above (share4 x) 0)))) (λ x y. refl)
+    (linear_above share1 (λ x. above (share2 x) (above (share3 x) (above (share4 x) 0))) (linear_xor (λ x. x * 2 ^ 17 % 2 ^ 64) (λ x. x * 2 ^ 55 % 2 ^ 64) (linear_shl 17) (linear_shl 55))
+    (linear_above share2 (λ x. above (share3 x) (above (share4 x) 0))
     (linear_xor (λ x. bit_xor (x / 2 ^ 47) (x / 2 ^ 9)) (λ x. x * 2 ^ 19 % 2 ^ 64) (linear_xor (λ x. x / 2 ^ 47) (λ x. x / 2 ^ 9) (linear_shr 47) (linear_shr 9)) (linear_shl 19))
-    (linear_above share3 share4 (linear_xor (λ x. x / 2 ^ 45) (λ x. x * 2 ^ 44 % 2 ^ 64) (linear_shr 45) (linear_shl 44)) (linear_shr 20))))
+    (linear_above share3 (λ x. above (share4 x) 0) (linear_xor (λ x. x / 2 ^ 45) (λ x. x * 2 ^ 44 % 2 ^ 64) (linear_shr 45) (linear_shl 44))
+    (linear_above share4 (λ x. 0) (linear_shr 20) (λ x y. refl)))))
 
 -- two functions agree at each power of two below 2 ^ k
 agree : (ℕ → ℕ) → (ℕ → ℕ) → ℕ → Bool
@@ -92,10 +104,6 @@ unfolding agree step steps shares share1 share2 share3 share4
 same_shares x h =
     extend (steps 364) (λ y. steps 300 (shares y)) (steps_xor 364) (λ y z. ap (steps 300) (shares_xor y z) ∙ steps_xor 300 (shares y) (shares z)) refl 64 tt x h
 
-bits_is : (n : ℕ) → bits n 0 ≡ 8 * n
-bits_is zero = refl
-bits_is (suc n) = let e = bits_is n in omega arith
-
 -- registers that are equal 300 bits later are equal after 38 bytes and more
 alike : (x y : ℕ) (rest : List ℕ) → steps 300 x ≡ steps 300 y → 38 ≤ length rest → steps (bits (length rest) 0) x ≡ steps (bits (length rest) 0) y
 alike x y rest e h =
@@ -117,25 +125,23 @@ leaves a s chunk rest w hc =
     register_append chunk rest (above a s)
     ∙ ap (λ (x : ℕ). register x rest) (hc (above a s) ∙ ap (steps 64) (low_xor a s w) ∙ steps_above (bit_xor a w) s)
 
-merged : (s : Window) (x : ℕ) → bit_xor (shares x) (above s.b (above s.c (above s.d s.e))) ≡ value (advanced s x)
-unfolding shares value advanced
-merged s x =
-    xor_comm (above 0 (above (share1 x) (above (share2 x) (above (share3 x) (share4 x))))) (above s.b (above s.c (above s.d s.e)))
-    ∙ above_xor s.b (above s.c (above s.d s.e)) 0 (above (share1 x) (above (share2 x) (above (share3 x) (share4 x))))
-    ∙ ap₂ above (xor_zero_r s.b)
-    (above_xor s.c (above s.d s.e) (share1 x) (above (share2 x) (above (share3 x) (share4 x)))
-    ∙ ap (above (bit_xor s.c (share1 x)))
-    (above_xor s.d s.e (share2 x) (above (share3 x) (share4 x))
-    ∙ ap (above (bit_xor s.d (share2 x))) (sym (xor_assoc s.e (share3 x) (share4 x * 2 ^ 64)))))
+merged : (x b c d e : ℕ) → bit_xor (shares x) (value (b ∷ c ∷ d ∷ e ∷ []))
+    ≡ value (b ∷ bit_xor c (share1 x) ∷ bit_xor d (share2 x) ∷ bit_xor e (share3 x) ∷ share4 x ∷ [])
+unfolding shares value
+merged x b c d e =
+    xor_comm (shares x) (value (b ∷ c ∷ d ∷ e ∷ []))
+    ∙ value_xor b c d e 0 0 (share1 x) (share2 x) (share3 x) (share4 x)
+    ∙ ap₂ (λ (y z : ℕ). value (y ∷ bit_xor c (share1 x) ∷ bit_xor d (share2 x) ∷ bit_xor e (share3 x) ∷ z ∷ [])) (xor_zero_r b) (xor_zero_l (share4 x))
 
-pub advance_is : (s : Window) (chunk rest : List ℕ) (w : ℕ) → s.a < 2 ^ 64 → w < 2 ^ 64 → Loads chunk w → 38 ≤ length rest
-    → register (value s) (chunk ++ rest) ≡ register (value (advanced s (bit_xor s.a w))) rest
-unfolding value
-advance_is s chunk rest w ha hw hc long =
-    let x : ℕ = bit_xor s.a w in
-    let tail : ℕ = above s.b (above s.c (above s.d s.e)) in
-    leaves s.a tail chunk rest w hc
+pub advance_is : (s : List ℕ) (chunk rest : List ℕ) (w : ℕ) → length s ≡ 5 → get_or s 0 0 < 2 ^ 64 → w < 2 ^ 64 → Loads chunk w → 38 ≤ length rest
+    → register (value s) (chunk ++ rest) ≡ register (value (advanced s (bit_xor (get_or s 0 0) w))) rest
+unfolding value advanced
+advance_is s chunk rest w five ha hw hc long =
+    let x : ℕ = bit_xor (get_or s 0 0) w in
+    let tail : ℕ = value (spelled 4 1 s) in
+    ap (λ (z : List ℕ). register (value z) (chunk ++ rest)) (sym (spelled_is 5 0 s (omega arith) ∙ take_all 5 s (omega arith)))
+    ∙ leaves (get_or s 0 0) tail chunk rest w hc
     ∙ register_xor rest (steps 64 x) tail
-    ∙ ap (λ (y : ℕ). bit_xor y (register tail rest)) (alike (steps 64 x) (shares x) rest (sym (steps_add 64 300 x) ∙ same_shares x (xor_lt 64 s.a w ha hw)) long)
+    ∙ ap (λ (y : ℕ). bit_xor y (register tail rest)) (alike (steps 64 x) (shares x) rest (sym (steps_add 64 300 x) ∙ same_shares x (xor_lt 64 (get_or s 0 0) w ha hw)) long)
     ∙ sym (register_xor rest (shares x) tail)
-    ∙ ap (λ (y : ℕ). register y rest) (merged s x)
+    ∙ ap (λ (y : ℕ). register y rest) (merged x (get_or s 1 0) (get_or s 2 0) (get_or s 3 0) (get_or s 4 0))

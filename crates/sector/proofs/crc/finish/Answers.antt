@@ -6,8 +6,7 @@ use Rattle.sector.proofs.crc.finish.Goals as goal
 
 pub returns : goal.returns
 returns c =
-    finish_is c.args.s c.args.back.now c.as_chunks.result.0.now c.load.result c.load-2.result c.load-3.result c.load-4.result c.load-5.result
-    c.shift64-c.result c.shift64-d.result c.shift64-e.result c.shift64-f.result c.shift64-g.result c.update.result _
-    c.requires c.as_chunks.ensures.front c.load.ensures c.load-2.ensures c.load-3.ensures c.load-4.ensures c.load-5.ensures
-    c.shift64-c.ensures c.shift64-d.ensures c.shift64-e.ensures c.shift64-f.ensures c.shift64-g.ensures
-    (c.update.ensures ∙ ap (register c.shift64-g.result) (take_rest c.args.back.now 40))
+    finish_is c.args.back.now c.as_chunks.result.0.now _ c.as_chunks.ensures.front c.args.s.now
+    c.take_word-r.result c.take_word-r-2.result c.take_word-r-3.result c.take_word-r-4.result c.take_word-r-5.result c.update.result c.told-s c.requires
+    c.take_word-r.ensures c.take_word-r-2.ensures c.take_word-r-3.ensures c.take_word-r-4.ensures c.take_word-r-5.ensures
+    (c.update.ensures ∙ ap (register c.take_word-r-5.result) (take_rest c.args.back.now 40))

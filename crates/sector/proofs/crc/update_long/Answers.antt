@@ -1,6 +1,6 @@
-use Rattle.std.proofs.Common.{◌≡◌, ℕ, ◌-◌, ◌*◌, ◌/◌, ◌%◌, ◌≤◌, length, drop, ap, ◌∙◌, ap₂, arith, length-drop}
+use Rattle.std.proofs.Common.{ℕ, List, ◌-◌, ◌*◌, ◌/◌, ◌++◌, length, ap, ◌∙◌, ap₂, arith}
 use lib.Bits.{xor_zero_r}
-use Rattle.std.proofs.lemmas.List.{take_rest}
+use Rattle.std.proofs.lemmas.List.{take-append-drop}
 use Rattle.sector.specs.Crc.{register}
 use Rattle.sector.specs.Window.{value}
 use Rattle.sector.proofs.Loops.{whole}
@@ -10,9 +10,9 @@ pub returns : goal.returns
 unfolding value
 returns c =
     let xs = c.args.bytes.now in
-    let mid : ℕ = (length xs - 40) / 8 * 8 in
-    let le : (length xs - 40) / 8 * 8 ≤ length xs = omega arith in
-    let even : (length xs - 40) / 8 * 8 % 8 ≡ 0 = omega arith in
-    let long : 38 ≤ length (drop ((length xs - 40) / 8 * 8) xs) = simp length-drop (omega arith) in
-    c.finish.ensures ∙ ap (register (value c.fold.result)) (take_rest xs mid) ∙ c.fold.ensures (drop mid xs) long
-    ∙ ap₂ register (xor_zero_r c.args.start) (whole xs mid c.as_chunks.result.0.now le even c.as_chunks.ensures.front)
+    let front : List ℕ = c.split_at.result.0.now in
+    let back : List ℕ = c.split_at.result.1.now in
+    let words = whole front c.as_chunks.result.0.now (omega (arith, c.split_at.ensures.front_len)) c.as_chunks.ensures.front in
+    c.finish.ensures ∙ c.fold.ensures back (omega (arith, c.split_at.ensures.back_len))
+    ∙ ap₂ register (xor_zero_r c.args.start)
+    (ap (λ (ys : List ℕ). ys ++ back) words ∙ ap₂ ◌++◌ c.split_at.ensures.front c.split_at.ensures.back ∙ take-append-drop ((length xs - 40) / 8 * 8) xs)
