@@ -1,8 +1,9 @@
 -- Alarm marks: a tick, a point and an event, eight bytes each.
-use Rattle.std.specs.Prelude.{ℕ, ◌+◌, ◌*◌, Bool, ◌&&◌, List, [], ◌∷◌, ◌++◌, nat_le, nat_lt, slice_index}
+use Rattle.std.specs.Prelude.{◌≡◌, ℕ, ◌+◌, ◌*◌, ◌≤◌, Bool, ◌&&◌, List, [], ◌∷◌, ◌++◌, nat_le, nat_lt, slice_index, Result, MatchResult}
 use Rattle.little_endian.specs.Little.{le16, le32}
 use Rattle.element.specs.declared.mark.Event.{Event}
 use Rattle.element.specs.declared.mark.Event.TheVariants.{Raised, Acknowledged, Cleared}
+use Rattle.element.specs.declared.mark.UnknownEvent.{UnknownEvent}
 use Rattle.element.specs.declared.mark.Mark.{Mark}
 
 -- the number that stands for an event
@@ -10,6 +11,10 @@ abbrev pub event_number : Event → ℕ
 event_number Raised = 1
 event_number Acknowledged = 2
 event_number Cleared = 3
+
+-- the event that the number stands for, or an error with a number that no event has
+abbrev pub DecodesEvent : ℕ → Result Event UnknownEvent → Type 0
+DecodesEvent number r = MatchResult r (λ event. event_number event ≡ number) (λ e. (e.0 ≡ number) × ((1 ≤ number) × (number ≤ 3) → ⊥))
 
 -- a number of a measuring point, and the number of an event
 abbrev pub stamp_lawful : ℕ → ℕ → Bool

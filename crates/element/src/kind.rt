@@ -1,8 +1,13 @@
 // The kinds of element, and what each fixes.
-ghost use Rattle.std.specs.Prelude.{◌≡◌, ◌≤◌, MatchOption};
-ghost use Rattle.element.specs.Kinds.{kind_number, width_of, capacity_of, bytes_lawful};
+ghost use Rattle.std.specs.Prelude.{◌≡◌};
+ghost use Rattle.element.specs.Kinds.{kind_number, width_of, capacity_of, bytes_lawful, DecodesKind};
 
 use crate::mark::is_stamp;
+use std::error::Error;
+use std::fmt;
+
+// The bytes of a block that hold its elements.
+const BLOCK_BYTES: usize = 480;
 
 // What the elements of a track are.
 #[derive(Clone, Copy, PartialEq, Eq, Debug)]
@@ -11,25 +16,43 @@ pub enum Kind {
     Mark = 2,
 }
 
-impl Kind {
-    // The number that is stored for the kind.
-    pub fn number(self) -> u8
-        ensures { result ≡ kind_number self }
-    {
-        self as u8
-    }
+// A number that no kind has.
+#[derive(Clone, Copy, PartialEq, Eq, Debug)]
+pub struct UnknownKind(pub u8);
 
-    // The kind that a stored number stands for.
-    pub fn of(number: u8) -> Option<Kind>
-        ensures { MatchOption result ((1 ≤ number) × (number ≤ 2) → ⊥) (λ k. kind_number k ≡ number) }
-    {
+impl fmt::Display for UnknownKind {
+    fn fmt<W: fmt::Write>(&self, f: &mut fmt::Formatter<W>) -> fmt::Result {
+        write!(f, "no kind of element has number {}", self.0)
+    }
+}
+
+impl Error for UnknownKind {}
+
+// The number that is stored for a kind.
+impl From<Kind> for u8 {
+    ghost from_gives = { λ kind number. number ≡ kind_number kind };
+
+    fn from(kind: Kind) -> u8 {
+        kind as u8
+    }
+}
+
+// The kind that a stored number stands for.
+impl TryFrom<u8> for Kind {
+    type Error = UnknownKind;
+
+    ghost try_from_gives = { DecodesKind };
+
+    fn try_from(number: u8) -> Result<Kind, UnknownKind> {
         match number {
-            1 => Some(Kind::Sound),
-            2 => Some(Kind::Mark),
-            _ => None,
+            1 => Ok(Kind::Sound),
+            2 => Ok(Kind::Mark),
+            _ => Err(UnknownKind(number)),
         }
     }
+}
 
+impl Kind {
     // The bytes of an element.
     pub fn width(self) -> usize
         ensures { result ≡ width_of self }
@@ -44,21 +67,19 @@ impl Kind {
     pub fn capacity(self) -> usize
         ensures { result ≡ capacity_of self }
     {
-        match self {
-            Kind::Sound => 240,
-            Kind::Mark => 60,
-        }
+        BLOCK_BYTES / self.width()
     }
 
     // Whether these are the bytes of a lawful element.
     pub fn accepts(self, bytes: &[u8]) -> bool
         ensures { result ≡ bytes_lawful self bytes.now }
     {
-        match self {
-            Kind::Sound => bytes.len() == 2,
-            Kind::Mark => bytes.len() == 8
-                && is_stamp(u16::from_le_bytes([bytes[4], bytes[5]]), bytes[6])
-                && bytes[7] == 0,
+        match (self, bytes) {
+            (Kind::Sound, [_, _]) => true,
+            (Kind::Mark, [_, _, _, _, low, high, event, 0]) => {
+                is_stamp(u16::from_le_bytes([*low, *high]), *event)
+            }
+            _ => false,
         }
     }
 }

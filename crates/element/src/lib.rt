@@ -11,13 +11,15 @@ pub mod mark;
 pub mod payload;
 mod sound;
 
-pub use kind::Kind;
-pub use mark::{Event, Mark};
+pub use kind::{Kind, UnknownKind};
+pub use mark::{Event, Mark, UnknownEvent};
 
 // A type of value that a track can hold.
 pub trait Element: Copy {
     // its kind, which fixes the width and the lawful bytes
-    ghost kind: { Kind };
+    ghost KIND: { Kind };
+
+    const KIND: Kind;
 
     // which values may be recorded
     ghost lawful: { Self → Bool };
@@ -28,26 +30,23 @@ pub trait Element: Copy {
     // the value that bytes say
     ghost value: { List ℕ → Self };
 
-    fn kind_of() -> Kind
-        ensures { result ≡ kind };
-
     fn is_lawful(self) -> bool
         ensures { result ≡ lawful self };
 
     fn put(self, out: &mut [u8])
-        requires { length out.old ≡ width_of kind }
+        requires { length out.old ≡ width_of KIND }
         ensures { out.new ≡ bytes self };
 
     fn get(from: &[u8]) -> Self
-        requires { length from.now ≡ width_of kind }
+        requires { length from.now ≡ width_of KIND }
         ensures { result ≡ value from.now };
 
     // each value has as many bytes as its kind fixes
-    ghost wide: { (x : Self) → length (bytes x) ≡ width_of kind };
+    ghost wide: { (x : Self) → length (bytes x) ≡ width_of KIND };
 
     // the bytes of a lawful value are lawful and say it
-    ghost told: { (x : Self) → lawful x ≡ true → (bytes_lawful kind (bytes x) ≡ true) × (value (bytes x) ≡ x) };
+    ghost told: { (x : Self) → lawful x ≡ true → (bytes_lawful KIND (bytes x) ≡ true) × (value (bytes x) ≡ x) };
 
     // lawful bytes are those of the lawful value that they say
-    ghost only: { (bs : List ℕ) → Bytes bs → bytes_lawful kind bs ≡ true → (lawful (value bs) ≡ true) × (bytes (value bs) ≡ bs) };
+    ghost only: { (bs : List ℕ) → Bytes bs → bytes_lawful KIND bs ≡ true → (lawful (value bs) ≡ true) × (bytes (value bs) ≡ bs) };
 }

@@ -1,11 +1,13 @@
 // Alarm marks.
 ghost use Rattle.std.specs.Prelude.{◌≡◌};
-ghost use Rattle.element.specs.Marks.{event_number, stamp_lawful, mark_lawful, mark_bytes, mark_of};
+ghost use Rattle.element.specs.Marks.{event_number, stamp_lawful, mark_lawful, mark_bytes, mark_of, DecodesEvent};
 ghost use Rattle.element.specs.declared.kind.Kind.TheVariants.{Mark as MarkKind};
 ghost use Rattle.element.specs.Stamps;
 
 use crate::Element;
 use crate::kind::Kind;
+use std::error::Error;
+use std::fmt;
 
 // What happened at a measuring point.
 #[derive(Clone, Copy, PartialEq, Eq, Debug)]
@@ -15,12 +17,40 @@ pub enum Event {
     Cleared = 3,
 }
 
-impl Event {
-    // The number that is stored for the event.
-    pub fn number(self) -> u8
-        ensures { result ≡ event_number self }
-    {
-        self as u8
+// A number that no event has.
+#[derive(Clone, Copy, PartialEq, Eq, Debug)]
+pub struct UnknownEvent(pub u8);
+
+impl fmt::Display for UnknownEvent {
+    fn fmt<W: fmt::Write>(&self, f: &mut fmt::Formatter<W>) -> fmt::Result {
+        write!(f, "no event has number {}", self.0)
+    }
+}
+
+impl Error for UnknownEvent {}
+
+// The number that is stored for an event.
+impl From<Event> for u8 {
+    ghost from_gives = { λ event number. number ≡ event_number event };
+
+    fn from(event: Event) -> u8 {
+        event as u8
+    }
+}
+
+// The event that a stored number stands for.
+impl TryFrom<u8> for Event {
+    type Error = UnknownEvent;
+
+    ghost try_from_gives = { DecodesEvent };
+
+    fn try_from(number: u8) -> Result<Event, UnknownEvent> {
+        match number {
+            1 => Ok(Event::Raised),
+            2 => Ok(Event::Acknowledged),
+            3 => Ok(Event::Cleared),
+            _ => Err(UnknownEvent(number)),
+        }
     }
 }
 
@@ -33,7 +63,7 @@ pub struct Mark {
 }
 
 impl Element for Mark {
-    ghost kind = { MarkKind };
+    ghost KIND = { MarkKind };
 
     ghost lawful = { mark_lawful };
 
@@ -47,27 +77,22 @@ impl Element for Mark {
 
     ghost only = { Stamps.only };
 
-    fn kind_of() -> Kind {
-        Kind::Mark
-    }
+    const KIND: Kind = Kind::Mark;
 
     fn is_lawful(self) -> bool {
         is_stamp(self.point, self.event)
     }
 
     fn put(self, out: &mut [u8]) {
-        let tick = self.tick.to_le_bytes();
-        let point = self.point.to_le_bytes();
-        let all = [
-            tick[0], tick[1], tick[2], tick[3], point[0], point[1], self.event, 0,
-        ];
-        out.copy_from_slice(&all);
+        let [t0, t1, t2, t3] = self.tick.to_le_bytes();
+        let [p0, p1] = self.point.to_le_bytes();
+        out.copy_from_slice(&[t0, t1, t2, t3, p0, p1, self.event, 0]);
     }
 
     fn get(from: &[u8]) -> Mark {
         Mark {
-            tick: u32::from_le_bytes([from[0], from[1], from[2], from[3]]),
-            point: u16::from_le_bytes([from[4], from[5]]),
+            tick: u32::from_le_bytes(from[..4].try_into().unwrap()),
+            point: u16::from_le_bytes(from[4..6].try_into().unwrap()),
             event: from[6],
         }
     }
@@ -77,5 +102,5 @@ impl Element for Mark {
 pub fn is_stamp(point: u16, event: u8) -> bool
     ensures { result ≡ stamp_lawful point event }
 {
-    1 <= point && point <= 9999 && 1 <= event && event <= 3
+    (1..=9999).contains(&point) && Event::try_from(event).is_ok()
 }

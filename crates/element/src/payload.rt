@@ -10,7 +10,7 @@ use crate::Element;
 pub fn parse<E: Element>(bytes: &[u8]) -> Option<E>
     ensures { MatchOption result ((x : E) → E.Element.lawful x ≡ true → E.Element.bytes x ≢ bytes.now) (λ x. (E.Element.lawful x ≡ true) × (E.Element.bytes x ≡ bytes.now)) }
 {
-    if E::kind_of().accepts(bytes) {
+    if E::KIND.accepts(bytes) {
         Some(E::get(bytes))
     } else {
         None
@@ -22,7 +22,7 @@ fn pack_fitting<E: Element>(elements: &[E], payload: &mut [u8])
     requires { length (flat_map E.Element.bytes elements.now) ≤ length payload.old }
     ensures { payload.new ≡ flat_map E.Element.bytes elements.now ++ drop (length (flat_map E.Element.bytes elements.now)) payload.old }
 {
-    let width = E::kind_of().width();
+    let width = E::KIND.width();
     let mut at = 0;
     for x in elements {
         let end = at + width;
@@ -33,7 +33,7 @@ fn pack_fitting<E: Element>(elements: &[E], payload: &mut [u8])
 
 // Writes the elements over the front of the payload, if they fit; otherwise the payload stays as it is.
 pub fn pack<E: Element>(elements: &[E], payload: &mut [u8]) -> bool
-    ensures fits { result ≡ nat_le (length elements.now) (length payload.old / width_of E.Element.kind) }
+    ensures fits { result ≡ nat_le (length elements.now) (length payload.old / width_of E.Element.KIND) }
     ensures bytes { MatchBool result (payload.new ≡ flat_map E.Element.bytes elements.now ++ drop (length (flat_map E.Element.bytes elements.now)) payload.old) (payload.new ≡ payload.old) }
 {
     if !has_room(elements, payload) {
@@ -45,15 +45,15 @@ pub fn pack<E: Element>(elements: &[E], payload: &mut [u8]) -> bool
 
 // Whether the payload has room for the elements.
 fn has_room<E: Element>(elements: &[E], payload: &[u8]) -> bool
-    ensures { MatchBool result ((nat_le (length elements.now) (length payload.now / width_of E.Element.kind) ≡ true) × (length (flat_map E.Element.bytes elements.now) ≤ length payload.now)) (nat_le (length elements.now) (length payload.now / width_of E.Element.kind) ≡ false) }
+    ensures { MatchBool result ((nat_le (length elements.now) (length payload.now / width_of E.Element.KIND) ≡ true) × (length (flat_map E.Element.bytes elements.now) ≤ length payload.now)) (nat_le (length elements.now) (length payload.now / width_of E.Element.KIND) ≡ false) }
 {
-    elements.len() <= payload.len() / E::kind_of().width()
+    elements.len() <= payload.len() / E::KIND.width()
 }
 
 // Fills the slice with the elements that the front of the payload says, as far as both reach; answers how many.
 pub fn unpack<E: Element>(payload: &[u8], out: &mut [E]) -> usize
-    ensures count { result ≡ min (length out.old) (length payload.now / width_of E.Element.kind) }
-    ensures elements { out.new ≡ unpacked E.Element.value (width_of E.Element.kind) result payload.now ++ drop result out.old }
+    ensures count { result ≡ min (length out.old) (length payload.now / width_of E.Element.KIND) }
+    ensures elements { out.new ≡ unpacked E.Element.value (width_of E.Element.KIND) result payload.now ++ drop result out.old }
     ensures back { (xs : List E) (rest : List ℕ) → AllLawful E.Element.lawful xs → payload.now ≡ flat_map E.Element.bytes xs ++ rest → length xs ≤ result → take (length xs) out.new ≡ xs }
 {
     let count = reach(payload, out);
@@ -63,21 +63,21 @@ pub fn unpack<E: Element>(payload: &[u8], out: &mut [E]) -> usize
 
 // How many elements of the payload the slice takes.
 fn reach<E: Element>(payload: &[u8], out: &[E]) -> usize
-    ensures count { result ≡ min (length out.now) (length payload.now / width_of E.Element.kind) }
+    ensures count { result ≡ min (length out.now) (length payload.now / width_of E.Element.KIND) }
     ensures within { result ≤ length out.now }
-    ensures long { result * width_of E.Element.kind ≤ length payload.now }
+    ensures long { result * width_of E.Element.KIND ≤ length payload.now }
 {
-    out.len().min(payload.len() / E::kind_of().width())
+    out.len().min(payload.len() / E::KIND.width())
 }
 
 // Fills the front of the slice with so many elements.
 fn unpack_count<E: Element>(payload: &[u8], count: usize, out: &mut [E])
     requires within { count ≤ length out.old }
-    requires long { count * width_of E.Element.kind ≤ length payload.now }
-    ensures elements { out.new ≡ unpacked E.Element.value (width_of E.Element.kind) count payload.now ++ drop count out.old }
+    requires long { count * width_of E.Element.KIND ≤ length payload.now }
+    ensures elements { out.new ≡ unpacked E.Element.value (width_of E.Element.KIND) count payload.now ++ drop count out.old }
     ensures back { (xs : List E) (rest : List ℕ) → AllLawful E.Element.lawful xs → payload.now ≡ flat_map E.Element.bytes xs ++ rest → length xs ≤ count → take (length xs) out.new ≡ xs }
 {
-    let width = E::kind_of().width();
+    let width = E::KIND.width();
     let mut at = 0;
     for i in 0..count {
         let end = at + width;

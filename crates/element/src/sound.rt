@@ -7,7 +7,7 @@ use crate::Element;
 use crate::kind::Kind;
 
 impl Element for i16 {
-    ghost kind = { Sound };
+    ghost KIND = { Sound };
 
     ghost lawful = { sample_lawful };
 
@@ -21,9 +21,7 @@ impl Element for i16 {
 
     ghost only = { Samples.only };
 
-    fn kind_of() -> Kind {
-        Kind::Sound
-    }
+    const KIND: Kind = Kind::Sound;
 
     fn is_lawful(self) -> bool {
         true
@@ -34,6 +32,6 @@ impl Element for i16 {
     }
 
     fn get(from: &[u8]) -> i16 {
-        i16::from_le_bytes([from[0], from[1]])
+        i16::from_le_bytes(from.try_into().unwrap())
     }
 }

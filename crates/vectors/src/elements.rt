@@ -23,7 +23,7 @@ mod tests {
     #[test]
     fn a_mark(rt: HostRuntime) {
         let mut payload = [0; 8];
-        assert_eq!(rt; Event::Raised.number(), 1);
+        assert_eq!(rt; u8::from(Event::Raised), 1);
         assert!(rt; pack(&[ALARM], &mut payload));
         assert!(rt; &payload == b"\xE8\x03\0\0\x3F\0\x01\0");
         assert_eq!(rt; parse::<Mark>(&payload), Some(ALARM));

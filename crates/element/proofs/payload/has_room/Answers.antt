@@ -5,5 +5,5 @@ use Rattle.element.proofs.payload.has_room.Goals as goal
 
 pub returns : goal.returns
 returns g c =
-    room_test g.E.Element.bytes c.args.elements.now c.width.result (width_of g.E.Element.kind) (length c.args.payload.now)
-    (c.width.ensures ∙ ap width_of c.kind_of.ensures) g.met.E.Element.wide
+    room_test g.E.Element.bytes c.args.elements.now c.width.result (width_of g.E.Element.KIND) (length c.args.payload.now)
+    (c.width.ensures ∙ ap width_of c.KIND.ensures) g.met.E.Element.wide

@@ -8,7 +8,7 @@ pub overflow_add-end : goal.overflow_add-end
 overflow_add-end g c =
     let f = g.E.Element.bytes in
     let x = c.x-item.result in
-    let lw = g.met.E.Element.wide x ∙ sym (c.width-width.ensures ∙ ap width_of c.kind_of.ensures) in
+    let lw = g.met.E.Element.wide x ∙ sym (c.width-width.ensures ∙ ap width_of c.KIND.ensures) in
     let r = room f c.args.elements.now c.loop-x.x-index x c.width-width.result (length c.args.payload.now) c.loop-x.at c.loop-x-test.true c.x-item.is lw c.requires c.loop-x.invariant.0 in
     search rules
 
@@ -16,7 +16,7 @@ pub slice_bounds-put-end : goal.slice_bounds-put-end
 slice_bounds-put-end g c =
     let f = g.E.Element.bytes in
     let x = c.x-item.result in
-    let lw = g.met.E.Element.wide x ∙ sym (c.width-width.ensures ∙ ap width_of c.kind_of.ensures) in
+    let lw = g.met.E.Element.wide x ∙ sym (c.width-width.ensures ∙ ap width_of c.KIND.ensures) in
     let r = room f c.args.elements.now c.loop-x.x-index x c.width-width.result (length c.args.payload.now) c.loop-x.at c.loop-x-test.true c.x-item.is lw c.requires c.loop-x.invariant.0 in
     search rules
 
@@ -24,7 +24,7 @@ pub loop-x-preserved : goal.loop-x-preserved
 loop-x-preserved g c =
     let f = g.E.Element.bytes in
     let x = c.x-item.result in
-    let lw = g.met.E.Element.wide x ∙ sym (c.width-width.ensures ∙ ap width_of c.kind_of.ensures) in
+    let lw = g.met.E.Element.wide x ∙ sym (c.width-width.ensures ∙ ap width_of c.KIND.ensures) in
     let more = packed_more f c.args.elements.now c.loop-x.x-index x c.loop-x-test.true c.x-item.is in
     let la = c.loop-x.invariant.0 in (
       rw add-one (omega (arith, simp length-append at (ap length more))),

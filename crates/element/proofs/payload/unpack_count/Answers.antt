@@ -13,9 +13,9 @@ loop-i-preserved g c = (
 
 pub returns : goal.returns
 returns g c =
-    let w = width_of g.E.Element.kind in
+    let w = width_of g.E.Element.KIND in
     let v = g.E.Element.value in
-    let same : c.width-width.result ≡ width_of g.E.Element.kind = c.width-width.ensures ∙ ap width_of c.kind_of.ensures in
+    let same : c.width-width.result ≡ width_of g.E.Element.KIND = c.width-width.ensures ∙ ap width_of c.KIND.ensures in
     let all : c.loop-i.i ≡ c.args.count = omega arith in
     let e = c.loop-i.invariant.1 ∙ ap₂ (λ (k n : ℕ). unpacked v k n c.args.payload.now ++ drop n c.args.out.now) same all in
     record {
