@@ -1,2 +1,1 @@
-pub mod Packed
 pub mod Unpacks

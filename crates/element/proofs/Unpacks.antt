@@ -1,44 +1,36 @@
 -- Elements read from bytes, one after the other.
-use Rattle.std.proofs.Common.{◌≡◌, ℕ, zero, suc, ◌+◌, ◌-◌, ◌*◌, ◌<◌, ◌≤◌, Bool, true, List, [], ◌∷◌, ◌++◌, length, get_or, take, drop, set, sym, refl, ap, ◌∙◌, ap₂, append_assoc, suc-mul, add_comm, zero-mul, add-one, arith, drop-drop}
-use native.Mathlib.Nat.{add-sub_cancel_left}
-use Rattle.std.proofs.lemmas.List.{take_at, drop_at, set_at, drop_more}
-use Rattle.std.specs.List.{flat_map}
-use Rattle.element.specs.Payload.{unpacked, AllLawful}
+use Rattle.std.proofs.Common.{◌≡◌, ℕ, zero, suc, ◌+◌, ◌<◌, ◌≤◌, Bool, true, List, [], ◌∷◌, ◌++◌, length, take, drop, set, sym, refl, ap, ◌∙◌, ap₂, append_assoc, append-nil, arith}
+use Rattle.std.proofs.lemmas.List.{take_at, drop_at, take_more_set, take-append-drop}
+use Rattle.std.proofs.lemmas.List.Elements.{All-head, All-tail}
+use Rattle.std.specs.List.{flat_map, AllPass}
+use Rattle.element.specs.Payload.{unpacked}
 
-length_unpacked : {X : Type 0} (v : List ℕ → X) (w n : ℕ) (bs : List ℕ) → length (unpacked v w n bs) ≡ n
-length_unpacked v w zero bs = refl
-length_unpacked v w (suc n) bs = ap suc (length_unpacked v w n (drop w bs))
+-- one element more was read, from the first bytes of those that were left
+pub read_more : {X : Type 0} (v : List ℕ → X) (w i : ℕ) (out : List X) (bs left chunk after : List ℕ) (x : X)
+    → i < length out → left ≡ chunk ++ after → length chunk ≡ w → x ≡ v chunk → ((n : ℕ) → take i out ++ unpacked v w n left ≡ unpacked v w (i + n) bs)
+    → (n : ℕ) → take (i + 1) (set out i x) ++ unpacked v w n after ≡ unpacked v w (i + 1 + n) bs
+read_more {X} v w i out bs left chunk after x h e l ex r n =
+    let first : take w left ≡ chunk = ap (take w) e ∙ take_at chunk after w l in
+    let rest : drop w left ≡ after = ap (drop w) e ∙ drop_at chunk after w l in
+    rw (take_more_set out i x h, append_assoc (take i out) (x ∷ []) (unpacked v w n after), ex, ← first, ← rest) (r (suc n) ∙ ap (λ (k : ℕ). unpacked v w k bs) (omega arith))
 
-unpacked_more : {X : Type 0} (v : List ℕ → X) (w i : ℕ) (bs : List ℕ) → unpacked v w (suc i) bs ≡ unpacked v w i bs ++ (v (take w (drop (i * w) bs)) ∷ [])
-unpacked_more v w zero bs = ap (λ (n : ℕ). v (take w (drop n bs)) ∷ []) (sym (zero-mul w))
-unpacked_more {X} v w (suc i) bs =
-    ap (λ (xs : List X). v (take w bs) ∷ xs)
-    (unpacked_more v w i (drop w bs)
-    ∙ ap (λ (ys : List ℕ). unpacked v w i (drop w bs) ++ (v (take w ys) ∷ []))
-    (drop-drop (i * w) w bs ∙ ap (λ (n : ℕ). drop n bs) (add_comm w (i * w) ∙ sym (suc-mul i w))))
-
-set_more : {X : Type 0} (front o : List X) (i : ℕ) (x : X) → length front ≡ i → i < length o → set (front ++ drop i o) i x ≡ (front ++ (x ∷ [])) ++ drop (i + 1) o
-set_more {X} front o i x l h =
-    ap (λ (r : List X). set (front ++ r) i x) (drop_more o i x h)
-    ∙ set_at front (get_or o i x) (drop (i + 1) o) x i l
-    ∙ sym (append_assoc front (x ∷ []) (drop (i + 1) o))
-
--- one element more was read
-pub unpack_more : {X : Type 0} (v : List ℕ → X) (w i at : ℕ) (bs : List ℕ) (o out : List X) (x : X) → i < length o → at ≡ i * w
-    → out ≡ unpacked v w i bs ++ drop i o → x ≡ v (take (at + w - at) (drop at bs)) → set out i x ≡ unpacked v w (i + 1) bs ++ drop (i + 1) o
-unpack_more {X} v w i at bs o out x h ea eo ex =
-    let same : x ≡ v (take w (drop (i * w) bs)) = ex ∙ ap₂ (λ (n k : ℕ). v (take n (drop k bs))) (add-sub_cancel_left at w) ea in
-    ap₂ (λ (r : List X) (y : X). set r i y) eo same
-    ∙ set_more (unpacked v w i bs) o i (v (take w (drop (i * w) bs))) (length_unpacked v w i bs) h
-    ∙ ap (λ (r : List X). r ++ drop (i + 1) o) (sym (unpacked_more v w i bs) ∙ ap (λ (n : ℕ). unpacked v w n bs) (sym (add-one i)))
+-- what was read stands in front of what was there before
+pub filled : {X : Type 0} (v : List ℕ → X) (w i : ℕ) (out before : List X) (bs left : List ℕ)
+    → ((n : ℕ) → take i out ++ unpacked v w n left ≡ unpacked v w (i + n) bs) → drop i out ≡ drop i before → out ≡ unpacked v w i bs ++ drop i before
+filled v w i out before bs left r k =
+    sym (take-append-drop i out) ∙ ap₂ ◌++◌ (sym (append-nil (take i out)) ∙ r 0 ∙ ap (λ (n : ℕ). unpacked v w n bs) (omega arith)) k
 
 -- elements that were packed are read as they were
-pub unpack_back : {X : Type 0} (f : X → List ℕ) (v : List ℕ → X) (ok : X → Bool) (w : ℕ) → ((x : X) → length (f x) ≡ w) → ((x : X) → ok x ≡ true → v (f x) ≡ x)
-    → (xs : List X) (n : ℕ) (bs rest : List ℕ) (o : List X) → AllLawful ok xs → bs ≡ flat_map f xs ++ rest → length xs ≤ n → take (length xs) (unpacked v w n bs ++ o) ≡ xs
-unpack_back f v ok w wide back [] n bs rest o h e l = refl
-unpack_back f v ok w wide back (x ∷ xs) zero bs rest o h e l = absurd (omega arith)
-unpack_back {X} f v ok w wide back (x ∷ xs) (suc n) bs rest o h e l =
-    let split : bs ≡ f x ++ (flat_map f xs ++ rest) = e ∙ append_assoc (f x) (flat_map f xs) rest in
-    ap₂ (λ (y : X) (ys : List X). y ∷ ys)
-    (ap (λ (r : List ℕ). v (take w r)) split ∙ ap v (take_at (f x) (flat_map f xs ++ rest) w (wide x)) ∙ back x h.0)
-    (unpack_back f v ok w wide back xs n (drop w bs) rest o h.1 (ap (drop w) split ∙ drop_at (f x) (flat_map f xs ++ rest) w (wide x)) (omega arith))
+module _ {X : Type 0} (f : X → List ℕ) (v : List ℕ → X) (ok : X → Bool) (w : ℕ) (wide : (x : X) → length (f x) ≡ w) (told : (x : X) → ok x ≡ true → v (f x) ≡ x) where
+  unpacked_back : (xs : List X) (n : ℕ) (bs rest : List ℕ) (o : List X) → AllPass ok xs → bs ≡ flat_map f xs ++ rest → length xs ≤ n → take (length xs) (unpacked v w n bs ++ o) ≡ xs
+  unpacked_back [] n bs rest o h e l = refl
+  unpacked_back (x ∷ xs) zero bs rest o h e l = absurd (omega arith)
+  unpacked_back (x ∷ xs) (suc n) bs rest o h e l =
+      let split : bs ≡ f x ++ (flat_map f xs ++ rest) = e ∙ append_assoc (f x) (flat_map f xs) rest in
+      ap₂ (λ (y : X) (ys : List X). y ∷ ys)
+      (ap (λ (r : List ℕ). v (take w r)) split ∙ ap v (take_at (f x) (flat_map f xs ++ rest) w (wide x)) ∙ told x (All-head (λ (y : X). ok y ≡ true) x xs h))
+      (unpacked_back xs n (drop w bs) rest o (All-tail (λ (y : X). ok y ≡ true) x xs h) (ap (drop w) split ∙ drop_at (f x) (flat_map f xs ++ rest) w (wide x)) (omega arith))
+
+  pub read_back : (n : ℕ) (bs : List ℕ) (out o : List X) → out ≡ unpacked v w n bs ++ o
+      → (xs : List X) (rest : List ℕ) → AllPass ok xs → bs ≡ flat_map f xs ++ rest → length xs ≤ n → take (length xs) out ≡ xs
+  read_back n bs out o e xs rest h s l = ap (take (length xs)) e ∙ unpacked_back xs n bs rest o h s l

@@ -1,7 +1,7 @@
 // Elements and the bytes that the format gives them.
 #[cfg(test)]
 mod tests {
-    use element::payload::{pack, parse, unpack};
+    use element::payload::{NoRoom, pack, parse, unpack};
     use element::{Event, Kind, Mark};
 
     const ALARM: Mark = Mark {
@@ -13,7 +13,7 @@ mod tests {
     #[test]
     fn samples_at_both_ends(rt: HostRuntime) {
         let mut payload = [0xAA; 6];
-        assert!(rt; pack(&[-32_768i16, 32_767], &mut payload));
+        assert!(rt; pack(&[-32_768i16, 32_767], &mut payload).is_ok());
         assert!(rt; &payload == b"\x00\x80\xFF\x7F\xAA\xAA");
         let mut samples = [0i16; 2];
         assert_eq!(rt; unpack(&payload, &mut samples), 2);
@@ -24,7 +24,7 @@ mod tests {
     fn a_mark(rt: HostRuntime) {
         let mut payload = [0; 8];
         assert_eq!(rt; u8::from(Event::Raised), 1);
-        assert!(rt; pack(&[ALARM], &mut payload));
+        assert!(rt; pack(&[ALARM], &mut payload).is_ok());
         assert!(rt; &payload == b"\xE8\x03\0\0\x3F\0\x01\0");
         assert_eq!(rt; parse::<Mark>(&payload), Some(ALARM));
     }
@@ -43,6 +43,6 @@ mod tests {
     fn what_fits_a_block(rt: HostRuntime) {
         assert_eq!(rt; Kind::Sound.capacity(), 240);
         assert_eq!(rt; Kind::Mark.capacity(), 60);
-        assert!(rt; !pack(&[1i16, 2], &mut [0; 3]));
+        assert_eq!(rt; pack(&[1i16, 2], &mut [0; 3]), Err(NoRoom));
     }
 }
