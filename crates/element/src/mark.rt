@@ -1,5 +1,5 @@
 // Alarm marks.
-ghost use Rattle.std.specs.Prelude.{◌≡◌};
+ghost use Rattle.std.specs.Prelude.{◌≡◌, refl};
 ghost use Rattle.element.specs.Marks.{event_number, stamp_lawful, mark_lawful, mark_bytes, mark_of, DecodesEvent};
 ghost use Rattle.element.specs.declared.kind.Kind.TheVariants.{Mark as MarkKind};
 ghost use Rattle.element.specs.Stamps;
@@ -17,7 +17,7 @@ pub enum Event {
     Cleared = 3,
 }
 
-// A number that no event has.
+// A number that no event has; a type of its own, so that a caller sees from the error which number was wrong.
 #[derive(Clone, Copy, PartialEq, Eq, Debug)]
 pub struct UnknownEvent(pub u8);
 
@@ -54,7 +54,7 @@ impl TryFrom<u8> for Event {
     }
 }
 
-// An alarm mark. Its event is a number, so that one that does not exist can be asked for and refused.
+// An alarm mark. Its event stays a number by a rule of the project: one that does not exist has to be asked for and refused.
 #[derive(Clone, Copy, PartialEq, Eq, Debug)]
 pub struct Mark {
     pub tick: u32,
@@ -71,7 +71,7 @@ impl Element for Mark {
 
     ghost value = { mark_of };
 
-    ghost wide = { Stamps.wide };
+    ghost wide = { λ _. refl };
 
     ghost told = { Stamps.told };
 

@@ -37,6 +37,7 @@ pub fn pack<E: Element>(elements: &[E], payload: &mut [u8]) -> Result<(), NoRoom
     if elements.len() > payload.len() / width {
         return Err(NoRoom);
     }
+    // By place, since of what `chunks_exact_mut` lends nothing is known once the loop is over.
     for (i, x) in elements.iter().enumerate() {
         let at = i * width;
         x.put(&mut payload[at..at + width]);
@@ -50,6 +51,7 @@ pub fn unpack<E: Element>(payload: &[u8], out: &mut [E]) -> usize
     ensures elements { out.new ≡ unpacked E.Element.value (width_of E.Element.KIND) result payload.now ++ drop result out.old }
     ensures back { (xs : List E) (rest : List ℕ) → AllPass E.Element.lawful xs → payload.now ≡ flat_map E.Element.bytes xs ++ rest → length xs ≤ result → take (length xs) out.new ≡ xs }
 {
+    // Not a `zip` of the two: of what an adapter of `iter_mut` lends nothing is known once the loop is over.
     let mut chunks = payload.chunks_exact(E::KIND.width());
     for (i, slot) in out.iter_mut().enumerate() {
         let Some(bytes) = chunks.next() else {

@@ -1,4 +1,4 @@
-use Rattle.std.proofs.Common.{◌≡◌, ◌≤◌, ℕ, ◌+◌, ◌*◌, ◌-◌, List, [], ◌∷◌, length, get_or, take, drop, sym, ap, ap₂, ◌∙◌, ◌++◌, arith, drop-drop, suc-mul, add-one}
+use Rattle.std.proofs.Common.{◌≡◌, ◌≤◌, ◌+◌, ◌*◌, ◌-◌, [], ◌∷◌, length, take, drop, sym, ap, ap₂, ◌∙◌, ◌++◌, arith, drop-drop, suc-mul, add-one}
 use Rattle.std.specs.List.{flat_map}
 use Rattle.std.proofs.lemmas.Slice.{take-put_mid, drop-put_mid}
 use Rattle.std.proofs.lemmas.List.{take_more, flat_map_more}

@@ -1,4 +1,4 @@
-use Rattle.std.proofs.Common.{◌≡◌, Bool, true, false, Option, None, Some, MatchOption, is_some, IfSome, sym, rules}
+use Rattle.std.proofs.Common.{◌≡◌, Bool, false, Option, None, Some, MatchOption, is_some, IfSome, sym, rules}
 use Rattle.element.proofs.payload.parse.Goals as goal
 
 -- what `then` answers, by its test

@@ -1,7 +1,6 @@
-use Rattle.std.proofs.Common.{rules, ◌≡◌, ℕ, ◌+◌, ◌*◌, ◌≤◌, ◌<◌, ◌++◌, List, length, take, drop, set, get_or, ap, sym, ◌∙◌, arith, drop-drop, length-append, suc-mul, add-one}
+use Rattle.std.proofs.Common.{◌≡◌, ◌+◌, ◌++◌, length, drop, ap, sym, ◌∙◌, arith, drop-drop, length-append, suc-mul, add-one}
 use Rattle.std.proofs.lemmas.List.{set-get_or, drop-set-lt}
 use Rattle.element.specs.Kinds.{width_of}
-use Rattle.element.specs.Payload.{unpacked}
 use Rattle.element.proofs.Unpacks.{read_more, filled, read_back}
 use Rattle.element.proofs.payload.unpack.Goals as goal
 

@@ -1,4 +1,4 @@
-use Rattle.std.proofs.Common.{◌≡◌, ◌≤◌, ◌+◌, ◌*◌, ◌++◌, ℕ, length, take, drop}
+use Rattle.std.proofs.Common.{◌≡◌, ◌+◌, ◌*◌, ◌++◌, ℕ, length, take, drop}
 use Rattle.element.specs.Kinds.{width_of}
 use Rattle.element.specs.Payload.{unpacked}
 use Rattle.element.proofs.payload.unpack.Given as goal
