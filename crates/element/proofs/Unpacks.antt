@@ -1,6 +1,6 @@
 -- Elements read from bytes, one after the other.
-use Rattle.std.proofs.Common.{◌≡◌, ℕ, zero, suc, ◌+◌, ◌<◌, ◌≤◌, Bool, true, List, [], ◌∷◌, ◌++◌, length, take, drop, set, sym, refl, ap, ◌∙◌, ap₂, append_assoc, append-nil, arith}
-use Rattle.std.proofs.lemmas.List.{take_at, drop_at, take_more_set, take-append-drop}
+use Rattle.std.proofs.Common.{◌≡◌, ℕ, zero, suc, ◌+◌, ◌<◌, ◌≤◌, Bool, true, List, [], ◌∷◌, ◌++◌, length, take, drop, set, refl, ap, ◌∙◌, ap₂, append_assoc, arith}
+use Rattle.std.proofs.lemmas.List.{take_at, drop_at, take_more_set}
 use Rattle.std.proofs.lemmas.List.Elements.{All-head, All-tail}
 use Rattle.std.specs.List.{flat_map, AllPass}
 use Rattle.element.specs.Payload.{unpacked}
@@ -13,12 +13,6 @@ read_more {X} v w i out bs left chunk after x h e l ex r n =
     let first : take w left ≡ chunk = ap (take w) e ∙ take_at chunk after w l in
     let rest : drop w left ≡ after = ap (drop w) e ∙ drop_at chunk after w l in
     rw (take_more_set out i x h, append_assoc (take i out) (x ∷ []) (unpacked v w n after), ex, ← first, ← rest) (r (suc n) ∙ ap (λ (k : ℕ). unpacked v w k bs) (omega arith))
-
--- what was read stands in front of what was there before
-pub filled : {X : Type 0} (v : List ℕ → X) (w i : ℕ) (out before : List X) (bs left : List ℕ)
-    → ((n : ℕ) → take i out ++ unpacked v w n left ≡ unpacked v w (i + n) bs) → drop i out ≡ drop i before → out ≡ unpacked v w i bs ++ drop i before
-filled v w i out before bs left r k =
-    sym (take-append-drop i out) ∙ ap₂ ◌++◌ (sym (append-nil (take i out)) ∙ r 0 ∙ ap (λ (n : ℕ). unpacked v w n bs) (omega arith)) k
 
 -- elements that were packed are read as they were
 module _ {X : Type 0} (f : X → List ℕ) (v : List ℕ → X) (ok : X → Bool) (w : ℕ) (wide : (x : X) → length (f x) ≡ w) (told : (x : X) → ok x ≡ true → v (f x) ≡ x) where

@@ -1,7 +1,8 @@
 use Rattle.std.proofs.Common.{◌≡◌, ◌+◌, ◌++◌, length, drop, ap, sym, ◌∙◌, arith, drop-drop, length-append, suc-mul, add-one}
-use Rattle.std.proofs.lemmas.List.{set-get_or, drop-set-lt}
+use Rattle.std.proofs.lemmas.List.{drop-set-lt, take-append-drop}
+use Rattle.std.proofs.lemmas.Grind.{common_steps}
 use Rattle.element.specs.Kinds.{width_of}
-use Rattle.element.proofs.Unpacks.{read_more, filled, read_back}
+use Rattle.element.proofs.Unpacks.{read_more, read_back}
 use Rattle.element.proofs.payload.unpack.Goals as goal
 
 pub loop-i-preserved : goal.loop-i-preserved
@@ -22,9 +23,8 @@ loop-i-preserved g c =
 -- the slice was filled
 pub returns-clause-elements : goal.returns-clause-elements
 returns-clause-elements g c =
-    let all : c.loop-i.i ≡ length c.loop-i.out = omega arith in
-    let inv = c.loop-i.invariant in
-    rw (← all) (filled g.E.Element.value (width_of g.E.Element.KIND) c.loop-i.i c.loop-i.out c.args.out.now c.args.payload.now c.loop-i.chunks.rest.now inv.read inv.kept)
+    let e = c.loop-i.invariant.read 0 in
+    grind (arith, common_steps, take-append-drop c.loop-i.i c.loop-i.out)
 
 pub returns-clause-back : goal.returns-clause-back
 returns-clause-back g c =
@@ -33,9 +33,8 @@ returns-clause-back g c =
 -- the payload had no more
 pub returns-in_default-clause-elements : goal.returns-in_default-clause-elements
 returns-in_default-clause-elements g c =
-    let inv = c.loop-i.invariant in
-    set-get_or c.loop-i.out c.loop-i.i c.index-out-i.result
-    ∙ filled g.E.Element.value (width_of g.E.Element.KIND) c.loop-i.i c.loop-i.out c.args.out.now c.args.payload.now c.loop-i.chunks.rest.now inv.read inv.kept
+    let e = c.loop-i.invariant.read 0 in
+    grind (arith, common_steps, take-append-drop c.loop-i.i c.loop-i.out)
 
 pub returns-in_default-clause-back : goal.returns-in_default-clause-back
 returns-in_default-clause-back g c =
