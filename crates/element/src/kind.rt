@@ -3,8 +3,7 @@ ghost use Rattle.std.specs.Prelude.{◌≡◌};
 ghost use Rattle.element.specs.Kinds.{kind_number, width_of, capacity_of, bytes_lawful, DecodesKind};
 
 use crate::mark::is_stamp;
-use std::error::Error;
-use std::fmt;
+use thiserror::Error;
 
 // The bytes of a block that hold its elements.
 const BLOCK_BYTES: usize = 480;
@@ -17,16 +16,9 @@ pub enum Kind {
 }
 
 // A number that no kind has.
-#[derive(Clone, Copy, PartialEq, Eq, Debug)]
+#[derive(Clone, Copy, PartialEq, Eq, Debug, Error)]
+#[error("no kind of element has number {0}")]
 pub struct UnknownKind(pub u8);
-
-impl fmt::Display for UnknownKind {
-    fn fmt<W: fmt::Write>(&self, f: &mut fmt::Formatter<W>) -> fmt::Result {
-        write!(f, "no kind of element has number {}", self.0)
-    }
-}
-
-impl Error for UnknownKind {}
 
 // The number that is stored for a kind.
 impl From<Kind> for u8 {

@@ -6,8 +6,7 @@ ghost use Rattle.element.specs.Stamps;
 
 use crate::Element;
 use crate::kind::Kind;
-use std::error::Error;
-use std::fmt;
+use thiserror::Error;
 
 // What happened at a measuring point.
 #[derive(Clone, Copy, PartialEq, Eq, Debug)]
@@ -18,16 +17,9 @@ pub enum Event {
 }
 
 // A number that no event has; a type of its own, so that a caller sees from the error which number was wrong.
-#[derive(Clone, Copy, PartialEq, Eq, Debug)]
+#[derive(Clone, Copy, PartialEq, Eq, Debug, Error)]
+#[error("no event has number {0}")]
 pub struct UnknownEvent(pub u8);
-
-impl fmt::Display for UnknownEvent {
-    fn fmt<W: fmt::Write>(&self, f: &mut fmt::Formatter<W>) -> fmt::Result {
-        write!(f, "no event has number {}", self.0)
-    }
-}
-
-impl Error for UnknownEvent {}
 
 // The number that is stored for an event.
 impl From<Event> for u8 {

@@ -5,20 +5,12 @@ ghost use Rattle.element.specs.Kinds.{width_of};
 ghost use Rattle.element.specs.Payload.{unpacked};
 
 use crate::Element;
-use std::error::Error;
-use std::fmt;
+use thiserror::Error;
 
 // More elements than the payload has room for.
-#[derive(Clone, Copy, PartialEq, Eq, Debug)]
+#[derive(Clone, Copy, PartialEq, Eq, Debug, Error)]
+#[error("the payload has no room for the elements")]
 pub struct NoRoom;
-
-impl fmt::Display for NoRoom {
-    fn fmt<W: fmt::Write>(&self, f: &mut fmt::Formatter<W>) -> fmt::Result {
-        f.write_str("the payload has no room for the elements")
-    }
-}
-
-impl Error for NoRoom {}
 
 // The lawful element that has these bytes, if there is one.
 pub fn parse<E: Element>(bytes: &[u8]) -> Option<E>
