@@ -1,2 +1,2 @@
-pub mod Headers
+pub mod Samples
 pub mod Files

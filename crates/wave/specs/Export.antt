@@ -1,6 +1,6 @@
 -- A WAVE file of 16-bit mono sound: a header of 44 bytes, then two bytes for each sample.
 use Rattle.std.specs.Prelude.{◌≡◌, ℕ, ◌+◌, ◌*◌, ◌/◌, ◌%◌, ◌<◌, ◌≤◌, ◌⊎◌, List, ◌++◌, length, ℤ, codes, slice_index, unsigned_abs}
-use Rattle.std.specs.Int.{w16}
+use Rattle.std.specs.Int.{w16, from_le_bytes}
 use Rattle.std.proofs.Common.{to_z}
 use Rattle.little_endian.specs.Little.{le16, le32}
 
@@ -26,6 +26,10 @@ pub record Exported (file : List ℕ) (rate : ℕ) (samples : List ℕ) : Type 0
 -- sample k: its low byte, then its high byte, in two's complement
 abbrev pub sample_at : List ℕ → ℕ → ℤ
 sample_at bytes k = to_z w16 (slice_index bytes (2 * k) + slice_index bytes (2 * k + 1) * 256)
+
+-- how far the number that stands in two bytes is from 0
+abbrev pub distance : List ℕ → ℕ
+distance pair = unsigned_abs (to_z w16 (from_le_bytes w16 pair))
 
 -- the length of n samples in milliseconds, rounded down; 0 at a rate of 0, as any quotient by 0 is
 abbrev pub duration : ℕ → ℕ → ℕ

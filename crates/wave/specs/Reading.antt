@@ -1,5 +1,5 @@
 -- Why a file is refused, and what reading one answers.
-use Rattle.std.specs.Prelude.{◌≡◌, ℕ, List, Ok, Err, Result}
+use Rattle.std.specs.Prelude.{◌≡◌, ℕ, List, Result, IsOkAnd}
 use Rattle.wave.specs.declared.Wave.{Wave}
 use Rattle.wave.specs.declared.Refusal.{Refusal}
 use Rattle.wave.specs.declared.Refusal.TheVariants.{NotWave}
@@ -10,5 +10,4 @@ refusal_number NotWave = 21
 
 -- the answer is a sound, with exactly that rate and those samples
 abbrev pub Gives : ℕ → List ℕ → Result Wave Refusal → Type 0
-Gives rate samples (Ok w) = (w.rate ≡ rate) × (w.samples.now ≡ samples)
-Gives rate samples (Err e) = ⊥
+Gives rate samples result = IsOkAnd result (λ w. (w.rate ≡ rate) × (w.samples.now ≡ samples))

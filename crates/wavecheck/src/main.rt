@@ -2,55 +2,73 @@
 #![tactic(auto)]
 
 ghost use Rattle.std.specs.Prelude.{◌≡◌};
+ghost use Rattle.wavecheck.specs.declared.Problem.TheVariants.{Refused, Unreadable};
 ghost use Rattle.wavecheck.specs.Findings.{Judged};
 ghost use Rattle.wavecheck.specs.Tallies.{counted};
 
 use std::fs::File;
 use std::io::Read;
 use std::{env, fmt, io};
-use wave::LONGEST_FILE;
+use thiserror::Error;
+use wave::{LONGEST_FILE, Refusal};
 
 // The longest file that can be a sound, and one byte more, by which a longer file is told.
 const ROOM: u64 = LONGEST_FILE as u64 + 1;
 
-// What a file turned out to be.
-#[derive(Drop)]
-enum Finding {
-    Sound {
-        rate: u32,
-        count: usize,
-        milliseconds: u128,
-        peak: u16,
-    },
-    Refused(u8),
+// What a file holds whose bytes are a sound that an export writes.
+#[derive(Clone, Copy)]
+struct Sound {
+    rate: u32,
+    count: usize,
+    milliseconds: u128,
+    peak: u16,
+}
+
+impl fmt::Display for Sound {
+    fn fmt<W: fmt::Write>(&self, f: &mut fmt::Formatter<W>) -> fmt::Result {
+        let Sound {
+            rate,
+            count,
+            milliseconds,
+            peak,
+        } = *self;
+        let noun = if count == 1 { "sample" } else { "samples" };
+        let seconds = milliseconds / 1000;
+        let rest = milliseconds % 1000;
+        write!(
+            f,
+            "{rate} Hz, {count} {noun}, {seconds}.{rest:03} s, peak {peak}"
+        )
+    }
+}
+
+// Why there is no sound to tell of.
+#[derive(Debug, Drop, Error)]
+enum Problem {
+    #[error("refused with {}", u8::from(*.0))]
+    Refused(Refusal),
+    #[error("cannot be read: {0}")]
     Unreadable(io::Error),
 }
 
-impl fmt::Display for Finding {
-    fn fmt<W: fmt::Write>(&self, f: &mut fmt::Formatter<W>) -> fmt::Result {
-        match self {
-            Finding::Sound {
-                rate,
-                count,
-                milliseconds,
-                peak,
-            } => {
-                let seconds = *milliseconds / 1000;
-                let rest = *milliseconds % 1000;
-                let noun = if *count == 1 { "sample" } else { "samples" };
-                write!(
-                    f,
-                    "{rate} Hz, {count} {noun}, {seconds}.{rest:03} s, peak {peak}"
-                )
-            }
-            Finding::Refused(number) => write!(f, "refused with {number}"),
-            Finding::Unreadable(error) => write!(f, "cannot be read: {error}"),
-        }
+impl From<Refusal> for Problem {
+    ghost from_gives = { λ refusal problem. problem ≡ Refused refusal };
+
+    fn from(refusal: Refusal) -> Problem {
+        Problem::Refused(refusal)
+    }
+}
+
+impl From<io::Error> for Problem {
+    ghost from_gives = { λ error problem. problem ≡ Unreadable error };
+
+    fn from(error: io::Error) -> Problem {
+        Problem::Unreadable(error)
     }
 }
 
 // How many files there were of each kind.
-#[derive(Clone, Copy)]
+#[derive(Clone, Copy, Default)]
 struct Tally {
     files: u64,
     accepted: u64,
@@ -60,14 +78,14 @@ struct Tally {
 
 impl Tally {
     // Counts one file more.
-    fn add(&mut self, finding: &Finding)
+    fn add(&mut self, finding: &Result<Sound, Problem>)
         ensures { self.new ≡ counted finding.now self.old }
     {
         self.files = self.files.saturating_add(1);
         match finding {
-            Finding::Sound { .. } => self.accepted = self.accepted.saturating_add(1),
-            Finding::Refused(_) => self.refused = self.refused.saturating_add(1),
-            Finding::Unreadable(_) => self.unreadable = self.unreadable.saturating_add(1),
+            Ok(_) => self.accepted = self.accepted.saturating_add(1),
+            Err(Problem::Refused(_)) => self.refused = self.refused.saturating_add(1),
+            Err(Problem::Unreadable(_)) => self.unreadable = self.unreadable.saturating_add(1),
         }
     }
 }
@@ -89,18 +107,16 @@ impl fmt::Display for Tally {
 }
 
 // What the bytes of a file are.
-fn judge(file: &[u8]) -> Finding
+fn judge(file: &[u8]) -> Result<Sound, Refusal>
     ensures { Judged file.now result }
 {
-    match wave::read(file) {
-        Ok(sound) => Finding::Sound {
-            rate: sound.rate,
-            count: sound.count(),
-            milliseconds: sound.milliseconds(),
-            peak: sound.peak(),
-        },
-        Err(refusal) => Finding::Refused(refusal.number()),
-    }
+    let sound = wave::read(file)?;
+    Ok(Sound {
+        rate: sound.rate,
+        count: sound.count(),
+        milliseconds: sound.milliseconds(),
+        peak: sound.peak(),
+    })
 }
 
 // The bytes of a file; of one that is too long to be a sound, only so many that this shows.
@@ -118,24 +134,20 @@ fn load(rt: &HostRuntime, name: &str) -> io::Result<Vec<u8>> {
 }
 
 // What a named file turns out to be.
-fn examine(rt: &HostRuntime, name: &str) -> Finding {
-    match load(rt, name) {
-        Ok(bytes) => judge(bytes.as_slice()),
-        Err(error) => Finding::Unreadable(error),
-    }
+fn examine(rt: &HostRuntime, name: &str) -> Result<Sound, Problem> {
+    let bytes = load(rt, name)?;
+    Ok(judge(&bytes)?)
 }
 
 // A line for each file, and a line that counts them.
 fn report(rt: &HostRuntime, names: env::Args) -> io::Result<()> {
-    let mut tally = Tally {
-        files: 0,
-        accepted: 0,
-        refused: 0,
-        unreadable: 0,
-    };
+    let mut tally = Tally::default();
     for name in names.skip(1) {
         let finding = examine(rt, name.as_str());
-        println!(rt; "{name}: {finding}")?;
+        match &finding {
+            Ok(sound) => println!(rt; "{name}: {sound}")?,
+            Err(problem) => println!(rt; "{name}: {problem}")?,
+        }
         tally.add(&finding);
     }
     if tally.files == 0 {

@@ -1,42 +1,32 @@
 -- A file is cut after 44 bytes: where that fails or they are not the header of the rest, no export wrote it.
-use Rattle.std.proofs.Common.{length, sym, refl, ap, ◌∙◌, arith}
-use Rattle.std.specs.Str.{bytes_eq}
-use Rattle.std.proofs.lemmas.Slice.Eq.{bytes_eq-Decides}
-use Rattle.wave.proofs.Files.{file_length, rest_is, rate_is, own_header, laid_out, equal, unequal}
+use Rattle.std.proofs.Common.{length, sym, ap, ◌∙◌, arith}
+use Rattle.std.proofs.lemmas.Bool.Decides.{Decides-eqb}
+use Rattle.std.proofs.lemmas.Result.{OkIff-decides}
+use Rattle.std.proofs.lemmas.Slice.Eq.{slice_eq-Decides}
+use Rattle.wave.proofs.Files.{file_length, rest_is, rate_is, own_header, laid_out, ok_is, then_some_if}
 use Rattle.wave.proofs.parse.Goals as goal
 
-pub returns-in_default : goal.returns-in_default
-returns-in_default c = record { only = refl; back = λ rate samples ex. omega (arith, c.in_default.ensures.cases, file_length _ rate samples ex) }
+pub returns-in_err-head-clause-back : goal.returns-in_err-head-clause-back
+returns-in_err-head-clause-back c = λ rate samples ex. absurd (omega (arith, c.in_err-head.ensures.cases, file_length _ rate samples ex))
 
-pub returns-in_default-try_from : goal.returns-in_default-try_from
-returns-in_default-try_from c =
-    record {
-      only = refl;
-      back = λ rate samples ex. c.in_default-try_from.ensures (omega (arith, ex.few, ap length (c.in-Some.ensures.cases.1 ∙ rest_is _ rate samples ex)));
-    }
+pub returns-in_err-count-clause-back : goal.returns-in_err-count-clause-back
+returns-in_err-count-clause-back c = λ rate samples ex.
+    let fits = (OkIff-decides _ _ _ c.try_from.ensures).1 (omega (arith, ex.few, ap length (c.in_ok-head.ensures.cases.1 ∙ rest_is _ rate samples ex))) in
+    let err = c.in_err-count.ensures.variant in
+    absurd (cc)
 
-pub returns-then-ne : goal.returns-then-ne
-returns-then-ne c =
-    let head = c.in-Some.head.now in
-    let told = c.in-Some.ensures.cases in
-    let ne = c.ne.ensures in
-    record {
-      only = refl;
-      back = λ rate samples ex.
-          unequal head c.header.result c.ne.result (bytes_eq head c.header.result) (bytes_eq-Decides head c.header.result) ne c.if-ne.true
-          (own_header _ rate samples ex head c.in-Some.samples.now c.from_le_bytes-rate.result c.in-Ok.count told.0 told.1 c.from_le_bytes-rate.ensures c.in-Ok.ensures.1
-          ∙ sym c.header.ensures);
-    }
+pub returns-clause-only : goal.returns-clause-only
+returns-clause-only c =
+    let told = c.in_ok-head.ensures.cases in
+    let same = slice_eq-Decides Decides-eqb _ _ _ c.eq.ensures in
+    rw c.then_some.ensures
+    (then_some_if _ _ _
+    (λ t. laid_out _ _ _ _ _ told.0 told.1 (same.0 t ∙ c.header.ensures) (ok_is _ _ _ _ c.try_from.ensures c.in_ok-count.ensures.value)))
 
-pub returns : goal.returns
-returns c =
-    let head = c.in-Some.head.now in
-    let told = c.in-Some.ensures.cases in
-    let ne = c.ne.ensures in
-    record {
-      only =
-          laid_out _ head c.in-Some.samples.now c.from_le_bytes-rate.result c.in-Ok.count told.0 told.1
-          (equal head c.header.result c.ne.result (bytes_eq head c.header.result) (bytes_eq-Decides head c.header.result) ne c.if-ne.false ∙ c.header.ensures)
-          c.in-Ok.ensures.1;
-      back = λ rate samples ex. (c.from_le_bytes-rate.ensures ∙ rate_is _ rate samples ex head told.0, told.1 ∙ rest_is _ rate samples ex);
-    }
+pub returns-clause-back : goal.returns-clause-back
+returns-clause-back c = λ rate samples ex.
+    let told = c.in_ok-head.ensures.cases in
+    let same = slice_eq-Decides Decides-eqb _ _ _ c.eq.ensures in
+    let rate_same = rate_is _ rate samples ex _ _ _ told.0 c.in_ok-first_chunk.ensures.cases.same c.from_le_bytes-rate.ensures in
+    let own = own_header _ rate samples ex _ _ _ _ told.0 told.1 rate_same (ok_is _ _ _ _ c.try_from.ensures c.in_ok-count.ensures.value) in
+    rw (c.then_some.ensures, same.1 (own ∙ sym c.header.ensures)) (rate_same, told.1 ∙ rest_is _ rate samples ex)
