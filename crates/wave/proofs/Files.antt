@@ -1,8 +1,6 @@
 -- What a file that an export writes holds, and where.
-use Rattle.std.proofs.Common.{◌≡◌, ℕ, ◌+◌, ◌<◌, Bool, true, false, List, ◌++◌, length, take, drop, Some, Result, Ok, Err, IfSome, sym, refl, ap, ◌∙◌, ap₂, arith, length-append}
-use Rattle.std.specs.Bool.{then_some}
+use Rattle.std.proofs.Common.{◌≡◌, ℕ, ◌+◌, ◌<◌, List, ◌++◌, length, take, drop, sym, refl, ap, ◌∙◌, ap₂, arith, length-append}
 use Rattle.std.specs.Int.{w32, from_le_bytes}
-use Rattle.std.specs.Result.{OkIff, result_ok}
 use Rattle.std.proofs.lemmas.List.{take_at, drop_at, take-append-drop}
 use Rattle.std.proofs.lemmas.Nat.{from_le_bytes-to_le_bytes_4}
 use Rattle.wave.specs.Export.{header_bytes, sample_count, Exported}
@@ -46,13 +44,3 @@ pub laid_out : (file head rest : List ℕ) (rate n : ℕ) → head ≡ take 44 f
     → file ≡ header_bytes rate (sample_count rest) ++ rest
 laid_out file head rest rate n eh er e en =
     sym (take-append-drop 44 file) ∙ ap₂ (λ (x y : List ℕ). x ++ y) (sym eh ∙ e ∙ ap (header_bytes rate) en) (sym er)
-
--- the value that a conversion gave
-pub ok_is : {E : Type 0} (r : Result ℕ E) (P : Type 0) (v x : ℕ) → OkIff r P v → Some x ≡ result_ok r → x ≡ v
-ok_is (Ok y) P v x h e = cc (h.1)
-ok_is (Err y) P v x h e = absurd (cc)
-
--- what holds of a value that is given only if a test passes
-pub then_some_if : {X : Type 0} (b : Bool) (x : X) (P : X → Type 0) → (b ≡ true → P x) → IfSome (then_some b x) P
-then_some_if true x P h = h refl
-then_some_if false x P h = tt

@@ -105,7 +105,11 @@ struct Numbers {
 impl Numbers {
     // The header with these numbers.
     fn header(self) -> [u8; 44]
-        ensures { (n : ℕ) → self.whole ≡ (36 + 2 * n) % 2 ^ 32 → self.speed ≡ 2 * self.rate % 2 ^ 32 → self.size ≡ 2 * n % 2 ^ 32 → result ≡ header_bytes self.rate n }
+        ensures { (n : ℕ)
+            → self.whole ≡ (36 + 2 * n) % 2 ^ 32
+            → self.speed ≡ 2 * self.rate % 2 ^ 32
+            → self.size ≡ 2 * n % 2 ^ 32
+            → result ≡ header_bytes self.rate n }
     {
         let mut out = BLANK;
         out[4..8].copy_from_slice(&self.whole.to_le_bytes());
@@ -132,13 +136,16 @@ pub fn header(rate: u32, samples: u32) -> [u8; 44]
 
 // The sound of a file that begins with the header of what follows, at any rate and of any length.
 fn parse(file: &[u8]) -> Option<Wave<'_>>
-    ensures only { IfSome result (λ w. file.now ≡ header_bytes w.rate (sample_count w.samples.now) ++ w.samples.now) }
-    ensures back { (rate : ℕ) (samples : List ℕ) → Exported file.now rate samples → IsSomeAnd result (λ w. (w.rate ≡ rate) × (w.samples.now ≡ samples)) }
+    ensures only { IfSome result
+        (λ w. file.now ≡ header_bytes w.rate (sample_count w.samples.now) ++ w.samples.now) }
+    ensures back { (rate : ℕ) (samples : List ℕ) → Exported file.now rate samples
+        → IsSomeAnd result (λ w. (w.rate ≡ rate) × (w.samples.now ≡ samples)) }
 {
     let (head, samples) = file.split_first_chunk::<44>()?;
     let rate = u32::from_le_bytes(*head[24..].first_chunk()?);
-    let count = u32::try_from(samples.len() / 2).ok()?;
-    (*head == header(rate, count)).then_some(Wave { rate, samples })
+    let wave = Wave { rate, samples };
+    let count = u32::try_from(wave.count()).ok()?;
+    (*head == header(rate, count)).then_some(wave)
 }
 
 // The sound of a file that an export writes: a header, with a rate from 8,000 to 48,000, then exactly its samples,
@@ -151,7 +158,7 @@ pub fn read(file: &[u8]) -> Result<Wave<'_>, Refusal>
         .filter(|wave| {
             (LOWEST_RATE..=HIGHEST_RATE).contains(&wave.rate)
                 && wave.count() <= MOST_SAMPLES
-                && wave.samples.len() % 2 == 0
+                && wave.samples.len().is_multiple_of(2)
         })
         .ok_or(Refusal::NotWave)
 }
