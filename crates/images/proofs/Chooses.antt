@@ -1,7 +1,8 @@
 -- What a cut leaves of a queued image.
-use Rattle.std.proofs.Common.{◌≡◌, ℕ, zero, suc, ◌+◌, ◌-◌, ◌*◌, ◌<◌, ◌≤◌, Bool, true, false, cond, eqb, ltb, List, [], ◌∷◌, length, get_or, replicate, None, Option, sym, refl, ap, ◌∙◌, arith, ltb-false, ltb-true, eqb-true, Ok}
+use Rattle.std.proofs.Common.{◌≡◌, ℕ, suc, ◌+◌, Bool, true, false, cond, eqb, ltb, List, [], ◌∷◌, length, get_or, replicate, Some, None, Option, slice_get, unwrap_or, Bor, sym, refl, ap, ◌∙◌, arith, eqb-true, Ok}
 use mathlib.Core.Path.{fun_ext}
-use lib.ListN.{length-replicate}
+use Rattle.std.specs.Option.{option_copied}
+use Rattle.std.proofs.lemmas.Grind.{common_steps}
 use Rattle.device.specs.declared.fault.Fault.{Fault}
 use Rattle.device.specs.Faults.{sick_at}
 use Rattle.device.specs.Meaning.{Sector, sick, held, contents}
@@ -9,12 +10,10 @@ use Rattle.device.specs.Calls.{sick_fault}
 use Rattle.device.specs.Cuts.{chosen, cut_by}
 use Rattle.device.proofs.Steps.{split}
 use Rattle.images.specs.declared.queue.WaitingWrite.{WaitingWrite}
-use Rattle.images.specs.Full.{all_full}
-use Rattle.images.specs.Sectors.{whole, content, over, is_sick}
+use Rattle.images.specs.Sectors.{whole, content, is_sick}
 use Rattle.images.specs.Image.{waiting_for, older, listed, sector_of, image_meaning}
 use Rattle.images.specs.Queue.{left_of, left_at}
-use Rattle.images.proofs.Contents.{over_at, over_length, whole_same, listed_well}
-use Rattle.images.proofs.Waits.{full_first, full_rest}
+use Rattle.images.proofs.Contents.{whole_same, listed_well}
 
 -- the contents of a list
 contents_older : (x : List ℕ) (t : Sector) → sick_fault t ≡ None → contents (older x t) ≡ x ∷ contents t
@@ -49,64 +48,23 @@ queued_cut layer plan sick_ones bytes bytes' queue queue' l e h =
     ∙ ap (λ (f : ℕ → Sector). record { size = whole bytes; power = Ok tt; sector = f })
     (fun_ext (λ t. cut_at (ltb t (whole bytes)) (is_sick sick_ones t) (sick_at layer t) (content bytes t) (content bytes' t) (get_or plan t 0) (waiting_for t queue) (h t)))
 
--- one sector chosen: its bytes
-full_cond : (e : Bool) (b : List ℕ) (xs : List (List ℕ)) (c : ℕ) → length b ≡ 512 → ((k : ℕ) → length (get_or xs k (replicate 512 0)) ≡ 512) → length (get_or (cond e (b ∷ xs) xs) c (replicate 512 0)) ≡ 512
-full_cond true b xs zero l h = l
-full_cond true b xs (suc c) l h = h c
-full_cond false b xs c l h = h c
+pub unwrap_copied : {A : Type 0} (o : Option (Bor A)) (d : Bor A) → (unwrap_or o d).now ≡ unwrap_or (option_copied o) d.now
+unwrap_copied None d = refl
+unwrap_copied (Some x) d = refl
 
-waiting_full : (s c : ℕ) (queue : List WaitingWrite) → all_full queue ≡ true → length (get_or (waiting_for s queue) c (replicate 512 0)) ≡ 512
-waiting_full s c [] h = length-replicate {A = ℕ} 512 0
-waiting_full s c (w ∷ queue) h = full_cond (eqb s w.sector) w.content (waiting_for s queue) c (full_first w queue h) (λ k. waiting_full s k queue (full_rest w queue h))
+-- a choice above 0, where others wait, leaves the one at its place, or zeros
+pub left_other : (c k : ℕ) (x y : List ℕ) (xs : List (List ℕ)) → c ≡ k + 1 → slice_get xs 0 ≡ Some y → get_or xs k (replicate 512 0) ≡ left_of c x xs
+left_other c k x y [] e h = absurd (cc)
+left_other c k x y (z ∷ zs) e h = let p : suc k ≡ c = omega arith in ap (λ (i : ℕ). get_or (x ∷ z ∷ zs) i (replicate 512 0)) p
 
-left_first : (c : ℕ) (x : List ℕ) (xs : List (List ℕ)) → c ≡ 0 → x ≡ left_of c x xs
-left_first c x [] e = refl
-left_first c x (y ∷ ys) e = sym (ap (λ (k : ℕ). get_or (x ∷ y ∷ ys) k (replicate 512 0)) e)
+-- where a sector is left as it is, its content is what is left
+pub same_left : (f : ℕ → List ℕ) (s : ℕ) (b : List ℕ) → f s ≡ b → (t : ℕ) → f t ≡ cond (eqb t s) b (f t)
+same_left f s b h t =
+    split (eqb t s)
+    (λ q. ap f (eqb-true t s q) ∙ h ∙ sym (ap (λ (v : Bool). cond v b (f t)) q))
+    (λ q. sym (ap (λ (v : Bool). cond v b (f t)) q))
 
-left_only : (c : ℕ) (x : List ℕ) (xs : List (List ℕ)) → length xs ≡ 0 → x ≡ left_of c x xs
-left_only c x [] e = refl
-left_only c x (y ∷ ys) e = absurd (omega arith)
-
-left_waiting : (c : ℕ) (x : List ℕ) (xs : List (List ℕ)) → 0 < c → 0 < length xs → get_or xs (c - 1) (replicate 512 0) ≡ left_of c x xs
-left_waiting zero x xs h l = absurd (omega arith)
-left_waiting (suc c) x [] h l = absurd (omega arith)
-left_waiting (suc c) x (y ∷ ys) h l = let z : suc c - 1 ≡ c = omega arith in ap (λ (i : ℕ). get_or (y ∷ ys) i (replicate 512 0)) z
-
-same_at : (bytes bytes' b : List ℕ) (s : ℕ) → bytes' ≡ bytes → content bytes s ≡ b → (t : ℕ) → content bytes' t ≡ cond (eqb t s) b (content bytes t)
-same_at bytes bytes' b s e h t =
-    ap (λ (x : List ℕ). content x t) e
-    ∙ split (eqb t s)
-    (λ q. ap (content bytes) (eqb-true t s q) ∙ h ∙ sym (ap (λ (v : Bool). cond v b (content bytes t)) q))
-    (λ q. sym (ap (λ (v : Bool). cond v b (content bytes t)) q))
-
--- what a choice does to the bytes, and that it keeps their length
-pub record Chosen (bytes bytes' b : List ℕ) (s : ℕ) : Type 0 where
-  pub each : (t : ℕ) → content bytes' t ≡ cond (eqb t s) b (content bytes t)
-  pub long : length bytes' ≡ length bytes
-
-same_chosen : (bytes bytes' b : List ℕ) (s : ℕ) → bytes' ≡ bytes → content bytes s ≡ b → Chosen bytes bytes' b s
-same_chosen bytes bytes' b s e h = record { each = same_at bytes bytes' b s e h; long = ap length e }
-
-over_chosen : (bytes bytes' b b' : List ℕ) (s : ℕ) → s < whole bytes → length b ≡ 512 → bytes' ≡ over bytes s b → b ≡ b' → Chosen bytes bytes' b' s
-over_chosen bytes bytes' b b' s lt l e h =
-    let k : 512 * s + 512 ≤ length bytes = omega arith in
-    record {
-      each = λ t. ap (λ (x : List ℕ). content x t) e ∙ over_at bytes b s t k l ∙ ap (λ (x : List ℕ). cond (eqb t s) x (content bytes t)) h;
-      long = ap length e ∙ over_length bytes b s k l;
-    }
-
-pub choice_chosen : (bytes bytes' : List ℕ) (queue : List WaitingWrite) (s c : ℕ) → all_full queue ≡ true → s < whole bytes
-    → (c ≡ 0 → bytes' ≡ bytes)
-    → (length (waiting_for s queue) ≡ 0 → bytes' ≡ bytes)
-    → (0 < c → 0 < length (waiting_for s queue) → bytes' ≡ over bytes s (get_or (waiting_for s queue) (c - 1) (replicate 512 0)))
-    → Chosen bytes bytes' (left_of c (content bytes s) (waiting_for s queue)) s
-choice_chosen bytes bytes' queue s c h lt settled none some =
-    let x = content bytes s in
-    let xs = waiting_for s queue in
-    split (ltb 0 c)
-    (λ e. let p : 0 < c = ltb-true _ _ e in
-    split (ltb 0 (length xs))
-    (λ d. let l : 0 < length xs = ltb-true _ _ d in
-    over_chosen bytes bytes' (get_or xs (c - 1) (replicate 512 0)) (left_of c x xs) s lt (waiting_full s (c - 1) queue h) (some p l) (left_waiting c x xs p l))
-    (λ d. let l : length xs ≤ 0 = ltb-false _ _ d in let z : length xs ≡ 0 = omega arith in same_chosen bytes bytes' (left_of c x xs) s (none z) (left_only c x xs z)))
-    (λ e. let p : c ≤ 0 = ltb-false _ _ e in let z : c ≡ 0 = omega arith in same_chosen bytes bytes' (left_of c x xs) s (settled z) (left_first c x xs z))
+-- one more sector is as the plan says
+pub left_more : (left old now next : ℕ → List ℕ) (s : ℕ) → ((t : ℕ) → now t ≡ cond (ltb t s) (left t) (old t)) → ((t : ℕ) → next t ≡ cond (eqb t s) (left s) (now t))
+    → (t : ℕ) → next t ≡ cond (ltb t (s + 1)) (left t) (old t)
+left_more left old now next s h k t = grind (arith, common_steps, h t, k t)

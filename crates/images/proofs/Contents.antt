@@ -1,16 +1,18 @@
 -- Sectors of bytes, and what stands in the way of a read or a write of an image.
-use Rattle.std.proofs.Common.{◌≡◌, ℕ, ◌+◌, ◌-◌, ◌*◌, ◌/◌, ◌<◌, ◌≤◌, min, Bool, true, false, cond, eqb, ltb, List, [], ◌∷◌, length, take, drop, Some, None, Ok, Option, sym, refl, ap, ◌∙◌, ⊎_elim, arith, length-append, length-drop, length-take, length-take-le, take_at, drop_at, eqb-true}
+use Rattle.std.proofs.Common.{◌≡◌, ℕ, ◌+◌, ◌-◌, ◌*◌, ◌/◌, ◌<◌, ◌≤◌, min, Bool, true, false, cond, eqb, ltb, List, [], ◌∷◌, length, take, drop, Some, None, Ok, Err, Option, sym, refl, ap, ◌∙◌, ⊎_elim, arith, length-append, length-drop, length-take, length-take-le, take_at, drop_at, eqb-true}
 use borrow.Author.Tests.{eqb-false}
 use Rattle.std.proofs.lemmas.Slice.{between_is, take-put_mid_below, drop-put_mid}
 use Rattle.device.specs.declared.fault.Fault.{Fault}
-use Rattle.device.specs.Faults.{out_of_range, sick_at}
-use Rattle.device.specs.Meaning.{Sector, sick, held, Meaning, newest}
+use Rattle.device.specs.Faults.{Answer, out_of_range, sick_at}
+use Rattle.device.specs.Meaning.{Sector, sick, held, newest}
 use Rattle.device.specs.Calls.{Reads, standing, sick_fault}
 use Rattle.device.proofs.Lists.{kept_refl}
 use Rattle.device.proofs.Steps.{split, apart, reads_went}
 use Rattle.images.specs.declared.queue.WaitingWrite.{WaitingWrite}
 use Rattle.images.specs.Sectors.{whole, content, over, is_sick, refusal}
-use Rattle.images.specs.Image.{waiting_for, older, listed, sector_of, image_meaning}
+use Rattle.images.specs.declared.sectors.Sectors.{Sectors}
+use Rattle.images.specs.Rewrites.{Rewrites, Stores}
+use Rattle.images.specs.Image.{waiting_for, older, listed, sector_of, image_sector, image_meaning}
 
 pub over_length : (bytes b : List ℕ) (s : ℕ) → 512 * s + 512 ≤ length bytes → length b ≡ 512 → length (over bytes s b) ≡ length bytes
 over_length bytes b s h l = simp (length-append, length-take, length-drop) (omega arith)
@@ -43,6 +45,16 @@ whole_same bytes bytes' h = ap (λ (k : ℕ). min (k / 512) 65536) h
 pub over_whole : (bytes b : List ℕ) (s : ℕ) → s < whole bytes → length b ≡ 512 → whole (over bytes s b) ≡ whole bytes
 over_whole bytes b s lt l = let h : 512 * s + 512 ≤ length bytes = omega arith in whole_same bytes (over bytes s b) (over_length bytes b s h l)
 
+-- what a store does to the bytes it does to the contents
+pub stores : (s n : Sectors) (k : ℕ) (b : List ℕ) → k < whole s.bytes.now → length b ≡ 512 → Rewrites s (over s.bytes.now k b) n → Stores s k b n
+stores s n k b lt l r =
+    let h : 512 * k + 512 ≤ length s.bytes.now = omega arith in
+    record {
+      rewrites = r;
+      each = λ t. ap (λ (x : List ℕ). content x t) r.bytes ∙ over_at s.bytes.now b k t h l;
+      long = ap length r.bytes ∙ over_length s.bytes.now b k h l;
+    }
+
 -- a list is never sick
 sick_older : (x : List ℕ) (t : Sector) → sick_fault (older x t) ≡ sick_fault t
 sick_older x (sick f) = refl
@@ -52,24 +64,43 @@ pub listed_well : (x : List ℕ) (xs : List (List ℕ)) → sick_fault (listed x
 listed_well x [] = refl
 listed_well x (y ∷ ys) = sick_older x (listed y ys) ∙ listed_well y ys
 
-refusal_at : (inside bad : Bool) (f g : Fault) (x : List ℕ) (xs : List (List ℕ)) → cond inside (cond bad (Some f) None) (Some g) ≡ cond inside (sick_fault (sector_of inside bad f x xs)) (Some g)
-refusal_at false bad f g x xs = refl
-refusal_at true true f g x xs = refl
-refusal_at true false f g x xs = sym (listed_well x xs)
+-- what answers of the sector's readiness: it is in range and not sick
+pub record Ready (bytes : List ℕ) (sick_ones : List (Option ℕ)) (s : ℕ) : Type 0 where
+  pub inside : ltb s (whole bytes) ≡ true
+  pub well : is_sick sick_ones s ≡ false
 
--- of an image only range and sickness stand in the way
-pub refusal_stands : (layer : ℕ) (sick_ones : List (Option ℕ)) (bytes : List ℕ) (queue : List WaitingWrite) (s : ℕ) → refusal layer (whole bytes) sick_ones s ≡ standing layer (image_meaning layer sick_ones bytes queue) s
-refusal_stands layer sick_ones bytes queue s = refusal_at (ltb s (whole bytes)) (is_sick sick_ones s) (sick_at layer s) (out_of_range layer s) (content bytes s) (waiting_for s queue)
+ready_at : (inside bad : Bool) (f g : Fault) → ◌≡◌ {A = Answer} (cond inside (cond bad (Err f) (Ok tt)) (Err g)) (Ok tt) → (inside ≡ true) × (bad ≡ false)
+ready_at false bad f g e = absurd (cc)
+ready_at true true f g e = absurd (cc)
+ready_at true false f g e = (refl, refl)
 
-none_inside : (inside bad : Bool) (f g : Fault) → cond inside (cond bad (Some f) None) (Some g) ≡ None → (inside ≡ true) × (bad ≡ false)
-none_inside false bad f g e = let z : ◌≡◌ {A = ℕ} 0 1 = cc in absurd (omega arith)
-none_inside true true f g e = let z : ◌≡◌ {A = ℕ} 0 1 = cc in absurd (omega arith)
-none_inside true false f g e = (refl, refl)
+-- nothing stands in the way of a sector that is ready
+pub ready_is : (layer : ℕ) (bytes : List ℕ) (sick_ones : List (Option ℕ)) (s : ℕ) → refusal layer (whole bytes) sick_ones s ≡ Ok tt → Ready bytes sick_ones s
+ready_is layer bytes sick_ones s e =
+    let (inside, well) = ready_at (ltb s (whole bytes)) (is_sick sick_ones s) (sick_at layer s) (out_of_range layer s) e in
+    record { inside = inside; well = well }
 
--- where nothing stands in the way, the sector is in range and not sick
-pub stands_well : (layer : ℕ) (sick_ones : List (Option ℕ)) (bytes : List ℕ) (queue : List WaitingWrite) (s : ℕ) → standing layer (image_meaning layer sick_ones bytes queue) s ≡ None → (ltb s (whole bytes) ≡ true) × (is_sick sick_ones s ≡ false)
-stands_well layer sick_ones bytes queue s e = none_inside (ltb s (whole bytes)) (is_sick sick_ones s) (sick_at layer s) (out_of_range layer s) (refusal_stands layer sick_ones bytes queue s ∙ e)
+none_stands : (inside bad : Bool) (f g : Fault) (x : List ℕ) (xs : List (List ℕ)) → inside ≡ true → bad ≡ false → cond inside (sick_fault (sector_of inside bad f x xs)) (Some g) ≡ None
+none_stands true false f g x xs e h = listed_well x xs
+none_stands true true f g x xs e h = absurd (cc)
+none_stands false bad f g x xs e h = absurd (cc)
 
--- a read that changes nothing
-pub reads_same : (layer s : ℕ) (m : Meaning) (buffer buffer' : List ℕ) → standing layer m s ≡ None → buffer' ≡ newest (m.sector s) → Reads layer m s buffer (Ok tt) m buffer'
-reads_same layer s m buffer buffer' e b = reads_went layer s m m buffer buffer' (Ok tt) e (record { size = refl; so = λ t. kept_refl (m.sector t) }) b
+pub ready_stands : (layer : ℕ) (bytes : List ℕ) (sick_ones : List (Option ℕ)) (queue : List WaitingWrite) (s : ℕ) → Ready bytes sick_ones s → standing layer (image_meaning layer sick_ones bytes queue) s ≡ None
+ready_stands layer bytes sick_ones queue s r = none_stands (ltb s (whole bytes)) (is_sick sick_ones s) (sick_at layer s) (out_of_range layer s) (content bytes s) (waiting_for s queue) r.inside r.well
+
+listed_at : (inside bad : Bool) (f : Fault) (x : List ℕ) (xs : List (List ℕ)) → inside ≡ true → bad ≡ false → sector_of inside bad f x xs ≡ listed x xs
+listed_at true false f x xs e h = refl
+listed_at true true f x xs e h = absurd (cc)
+listed_at false bad f x xs e h = absurd (cc)
+
+-- a ready sector has its settled content and those that wait
+pub ready_listed : (layer : ℕ) (bytes : List ℕ) (sick_ones : List (Option ℕ)) (queue : List WaitingWrite) (s : ℕ) → Ready bytes sick_ones s → image_sector layer sick_ones bytes queue s ≡ listed (content bytes s) (waiting_for s queue)
+ready_listed layer bytes sick_ones queue s r = listed_at (ltb s (whole bytes)) (is_sick sick_ones s) (sick_at layer s) (content bytes s) (waiting_for s queue) r.inside r.well
+
+-- a read of a ready sector that changes nothing
+pub ready_reads : (layer : ℕ) (bytes : List ℕ) (sick_ones : List (Option ℕ)) (queue : List WaitingWrite) (s : ℕ) (buffer buffer' : List ℕ) → Ready bytes sick_ones s
+    → buffer' ≡ newest (image_sector layer sick_ones bytes queue s)
+    → Reads layer (image_meaning layer sick_ones bytes queue) s buffer (Ok tt) (image_meaning layer sick_ones bytes queue) buffer'
+ready_reads layer bytes sick_ones queue s buffer buffer' r b =
+    let m = image_meaning layer sick_ones bytes queue in
+    reads_went layer s m m buffer buffer' (Ok tt) (ready_stands layer bytes sick_ones queue s r) (record { size = refl; so = λ t. kept_refl (m.sector t) }) b

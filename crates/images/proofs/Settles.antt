@@ -1,10 +1,13 @@
 -- What reads, writes and flushes of a queued image do to its lists.
-use Rattle.std.proofs.Common.{◌≡◌, ℕ, suc, ◌+◌, ◌-◌, ◌*◌, ◌<◌, ◌≤◌, Bool, true, false, cond, eqb, ltb, List, [], ◌∷◌, ◌++◌, length, get_or, None, Ok, Option, sym, refl, ap, ◌∙◌, subst, append-nil, arith, ltb-false, ltb-true, lt-ltb, ne_eqb, eqb-true}
+use Rattle.std.proofs.Common.{◌≡◌, ℕ, ◌+◌, ◌*◌, ◌<◌, ◌≤◌, Bool, true, false, cond, eqb, ltb, List, [], ◌∷◌, ◌++◌, reverse, length, Some, None, Ok, Option, sym, refl, ap, ◌∙◌, subst, append-nil, arith, ltb-false, ltb-true, lt-ltb, ne_eqb, eqb-true, unwrap_or}
+use Rattle.std.proofs.lemmas.List.{reverse-append, reverse-reverse}
+use Rattle.std.specs.List.{find}
+use Rattle.std.specs.Option.{option_map}
 use borrow.Author.Tests.{both_ways}
 use Rattle.device.specs.declared.fault.Fault.{Fault}
 use Rattle.device.specs.Faults.{sick_at}
 use Rattle.device.specs.Meaning.{Sector, sick, held, newest}
-use Rattle.device.specs.Calls.{Writes, Flushes, Kept, standing, sick_fault, written, added, settled}
+use Rattle.device.specs.Calls.{Writes, Flushes, Kept, sick_fault, written, added, settled}
 use Rattle.device.proofs.Lists.{remains_more, kept_refl, kept_worn}
 use Rattle.device.proofs.Steps.{split, writes_went, flushes_went}
 use Rattle.images.specs.declared.queue.WaitingWrite.{WaitingWrite}
@@ -12,41 +15,32 @@ use Rattle.images.specs.Full.{all_full}
 use Rattle.images.specs.Sectors.{whole, content, over, is_sick}
 use Rattle.images.specs.Image.{waiting_for, older, listed, sector_of, image_sector, image_meaning}
 use Rattle.images.specs.Queue.{without_oldest, settle_oldest, settle_all, without_first, settled_oldest, room_queue, room_bytes, room_sectors}
-use Rattle.images.proofs.Contents.{over_at, over_length, whole_same, listed_well, stands_well}
+use Rattle.images.proofs.Contents.{over_at, over_length, whole_same, listed_well, Ready, ready_stands}
 use Rattle.images.proofs.Waits.{listed_more, waiting_more, full_first, full_rest}
 
--- the newest content is the last that waits, or else the settled one
-newest_older : (x : List ℕ) (t : Sector) → sick_fault t ≡ None → newest (older x t) ≡ newest t
-newest_older x (sick f) e = let z : ◌≡◌ {A = ℕ} 0 1 = cc in absurd (omega arith)
-newest_older x (held old new) e = refl
+-- one content more is the newest
+newest_added : (b : List ℕ) (t : Sector) → sick_fault t ≡ None → b ≡ newest (added b t)
+newest_added b (sick f) e = absurd (cc)
+newest_added b (held old new) e = refl
 
-newest_listed : (x d : List ℕ) (xs : List (List ℕ)) → 0 < length xs → get_or xs (length xs - 1) d ≡ newest (listed x xs)
-newest_listed x d [] h = absurd (omega arith)
-newest_listed x d (y ∷ []) h = refl
-newest_listed x d (y ∷ z ∷ zs) h =
-    let p : 0 < length (z ∷ zs) = omega arith in
-    let e : length (y ∷ z ∷ zs) - 1 ≡ suc (length (z ∷ zs) - 1) = omega arith in
-    ap (λ (k : ℕ). get_or (y ∷ z ∷ zs) k d) e ∙ newest_listed y d (z ∷ zs) p ∙ sym (newest_older x (listed y (z ∷ zs)) (listed_well y (z ∷ zs)))
+newest_more : (e : Bool) (b x : List ℕ) (xs : List (List ℕ)) (o : Option (List ℕ)) → unwrap_or o x ≡ newest (listed x xs) → unwrap_or (cond e (Some b) o) x ≡ newest (listed x (xs ++ cond e (b ∷ []) []))
+newest_more true b x xs o h = newest_added b (listed x xs) (listed_well x xs) ∙ ap newest (sym (listed_more x xs b))
+newest_more false b x xs o h = h ∙ ap (λ (z : List (List ℕ)). newest (listed x z)) (sym (append-nil xs))
 
-newest_only : (x : List ℕ) (xs : List (List ℕ)) → length xs ≡ 0 → x ≡ newest (listed x xs)
-newest_only x [] h = refl
-newest_only x (y ∷ ys) h = absurd (omega arith)
+contents_cond : (e : Bool) (w : WaitingWrite) (o : Option WaitingWrite) → option_map (λ v. v.content) (cond e (Some w) o) ≡ cond e (Some w.content) (option_map (λ v. v.content) o)
+contents_cond true w o = refl
+contents_cond false w o = refl
 
-newest_at : (inside bad : Bool) (f : Fault) (x b : List ℕ) (xs : List (List ℕ)) → (inside ≡ true) × (bad ≡ false) → b ≡ newest (listed x xs) → b ≡ newest (sector_of inside bad f x xs)
-newest_at false bad f x b xs h e = absurd (both_ways false refl h.0)
-newest_at true true f x b xs h e = absurd (both_ways true h.1 refl)
-newest_at true false f x b xs h e = e
+-- what a search from the newest on finds is the newest content, or else the settled one is
+newest_back : (s : ℕ) (x : List ℕ) (back : List WaitingWrite) → unwrap_or (option_map (λ w. w.content) (find (λ w. eqb s w.sector) back)) x ≡ newest (listed x (waiting_for s (reverse back)))
+newest_back s x [] = refl
+newest_back s x (w ∷ back) =
+    ap (λ (o : Option (List ℕ)). unwrap_or o x) (contents_cond (eqb s w.sector) w (find (λ v. eqb s v.sector) back))
+    ∙ newest_more (eqb s w.sector) w.content x (waiting_for s (reverse back)) (option_map (λ v. v.content) (find (λ v. eqb s v.sector) back)) (newest_back s x back)
+    ∙ ap (λ (z : List (List ℕ)). newest (listed x z)) (sym (ap (waiting_for s) (reverse-append (w ∷ []) back) ∙ waiting_more s (reverse back) w))
 
-pub queued_newest : (layer : ℕ) (sick_ones : List (Option ℕ)) (bytes buffer buffer' : List ℕ) (queue : List WaitingWrite) (s : ℕ) → standing layer (image_meaning layer sick_ones bytes queue) s ≡ None
-    → (length (waiting_for s queue) ≡ 0 → buffer' ≡ content bytes s)
-    → (0 < length (waiting_for s queue) → buffer' ≡ get_or (waiting_for s queue) (length (waiting_for s queue) - 1) buffer)
-    → buffer' ≡ newest (image_sector layer sick_ones bytes queue s)
-queued_newest layer sick_ones bytes buffer buffer' queue s n none some =
-    let xs = waiting_for s queue in
-    newest_at (ltb s (whole bytes)) (is_sick sick_ones s) (sick_at layer s) (content bytes s) buffer' xs (stands_well layer sick_ones bytes queue s n)
-    (split (ltb 0 (length xs))
-    (λ e. let h : 0 < length xs = ltb-true _ _ e in some h ∙ newest_listed (content bytes s) buffer xs h)
-    (λ e. let k : length xs ≤ 0 = ltb-false _ _ e in let h : length xs ≡ 0 = omega arith in none h ∙ newest_only (content bytes s) xs h))
+pub newest_found : (s : ℕ) (x : List ℕ) (queue : List WaitingWrite) → unwrap_or (option_map (λ w. w.content) (find (λ w. eqb s w.sector) (reverse queue))) x ≡ newest (listed x (waiting_for s queue))
+newest_found s x queue = newest_back s x (reverse queue) ∙ ap (λ (z : List WaitingWrite). newest (listed x (waiting_for s z))) (reverse-reverse queue)
 
 -- settling the oldest
 first_older : (x : List ℕ) (t : Sector) → without_first (older x t) ≡ t
@@ -149,21 +143,21 @@ room_whole : (bytes : List ℕ) (queue : List WaitingWrite) → all_full queue �
 room_whole bytes queue h = whole_same bytes (room_bytes bytes queue) (room_length (ltb (length queue) 16) bytes queue h)
 
 pub write_lists : (layer : ℕ) (sick_ones : List (Option ℕ)) (bytes bytes' : List ℕ) (queue queue' : List WaitingWrite) (w : WaitingWrite) → all_full queue ≡ true
-    → standing layer (image_meaning layer sick_ones bytes queue) w.sector ≡ None → bytes' ≡ room_bytes bytes queue → queue' ≡ room_queue queue ++ (w ∷ [])
+    → Ready bytes sick_ones w.sector → bytes' ≡ room_bytes bytes queue → queue' ≡ room_queue queue ++ (w ∷ [])
     → (t : ℕ) → image_sector layer sick_ones bytes' queue' t ≡ written w.sector w.content (room_sectors queue (image_sector layer sick_ones bytes queue)) t
 write_lists layer sick_ones bytes bytes' queue queue' w h n eb eq t =
-    let lt : w.sector < whole bytes = ltb-true _ _ (stands_well layer sick_ones bytes queue w.sector n).0 in
+    let lt : w.sector < whole bytes = ltb-true _ _ n.inside in
     let lt2 : w.sector < whole (room_bytes bytes queue) = subst (λ (n : ℕ). w.sector < n) (sym (room_whole bytes queue h)) lt in
     ap (λ (x : List ℕ). image_sector layer sick_ones x queue' t) eb ∙ ap (λ (x : List WaitingWrite). image_sector layer sick_ones (room_bytes bytes queue) x t) eq
     ∙ add_lists layer sick_ones (room_bytes bytes queue) (room_queue queue) w t lt2
     ∙ ap (λ (x : Sector). cond (eqb t w.sector) (added w.content x) x) (room_at (ltb (length queue) 16) layer sick_ones bytes queue t h)
 
 pub write_writes : (layer : ℕ) (sick_ones : List (Option ℕ)) (bytes bytes' : List ℕ) (queue queue' : List WaitingWrite) (w : WaitingWrite) → all_full queue ≡ true
-    → standing layer (image_meaning layer sick_ones bytes queue) w.sector ≡ None → bytes' ≡ room_bytes bytes queue → queue' ≡ room_queue queue ++ (w ∷ [])
+    → Ready bytes sick_ones w.sector → bytes' ≡ room_bytes bytes queue → queue' ≡ room_queue queue ++ (w ∷ [])
     → Writes layer (image_meaning layer sick_ones bytes queue) w.sector w.content (Ok tt) (image_meaning layer sick_ones bytes' queue')
 write_writes layer sick_ones bytes bytes' queue queue' w h n eb eq =
     let at = image_sector layer sick_ones bytes queue in
-    writes_went layer w.sector (image_meaning layer sick_ones bytes queue) (image_meaning layer sick_ones bytes' queue') w.content (Ok tt) n
+    writes_went layer w.sector (image_meaning layer sick_ones bytes queue) (image_meaning layer sick_ones bytes' queue') w.content (Ok tt) (ready_stands layer bytes sick_ones queue w.sector n)
     (record {
       size = ap whole eb ∙ room_whole bytes queue h;
       so = λ t. subst (λ (x : Sector). Kept (written w.sector w.content at t) x) (sym (write_lists layer sick_ones bytes bytes' queue queue' w h n eb eq t))

@@ -1,10 +1,16 @@
 -- Lists of waiting writes: one more, one less, and those of one sector.
-use Rattle.std.proofs.Common.{◌≡◌, ℕ, zero, suc, ◌+◌, ◌<◌, ◌≤◌, Bool, true, false, cond, ◌&&◌, eqb, List, [], ◌∷◌, ◌++◌, length, get_or, take, sym, refl, ap, ◌∙◌, append-nil, arith, length-append, length-drop, length-take, eq-eqb, ne_eqb, eqb-true}
-use lib.Seq.{get_or-append_seam}
-use Rattle.std.proofs.lemmas.List.{take_more}
-use Rattle.std.specs.List.{remove}
+use Rattle.std.proofs.Common.{◌≡◌, ℕ, Bool, true, false, cond, ◌&&◌, eqb, List, [], ◌∷◌, ◌++◌, map, reverse, length, Some, None, sym, refl, ap, ◌∙◌, subst, eq-eqb, eqb-true}
+use Rattle.std.specs.Prelude.{filter, slice_get}
+use Rattle.std.specs.Borrow.{Bor}
+use Rattle.std.specs.VecDeque.Iter.{deque_iter_steps_back, deque_iter_rest}
+use Rattle.std.proofs.lemmas.List.{reverse-append, length-reverse}
+use Rattle.std.proofs.lemmas.Option.{slice_get-map}
+use Rattle.std.proofs.lemmas.Iterator.{YieldsList}
+use Rattle.std.proofs.lemmas.Iterator.Consumers.{YieldsList-from_shown}
+use Rattle.std.specs.Option.{option_map}
 use Rattle.device.specs.Meaning.{Sector, sick, held}
 use Rattle.device.specs.Calls.{added}
+use Rattle.device.proofs.Steps.{split}
 use Rattle.std.proofs.Math.Bool.{and-eq-true_iff}
 use Rattle.images.specs.declared.queue.WaitingWrite.{WaitingWrite}
 use Rattle.images.specs.Full.{all_full}
@@ -28,31 +34,25 @@ pub waiting_more : (s : ℕ) (queue : List WaitingWrite) (w : WaitingWrite) → 
 waiting_more s [] w = refl
 waiting_more s (v ∷ queue) w = waiting_cons (eqb s v.sector) v.content (waiting_for s queue) (waiting_for s (queue ++ (w ∷ []))) _ (waiting_more s queue w)
 
-abbrev pub no_write : WaitingWrite
-no_write = record { sector = 0; content = [] }
+-- the contents that wait for a sector are those of the writes to it
+pub waiting_filter : (s : ℕ) (queue : List WaitingWrite) → map (λ w. w.content) (filter (λ w. eqb s w.sector) queue) ≡ waiting_for s queue
+waiting_filter s [] = refl
+waiting_filter s (w ∷ queue) = split (eqb s w.sector) (λ e. rw e (ap (λ (z : List (List ℕ)). w.content ∷ z) (waiting_filter s queue))) (λ e. rw e (waiting_filter s queue))
 
-pub waiting_then : (s : ℕ) (queue : List WaitingWrite) (i : ℕ) → i < length queue → (get_or queue i no_write).sector ≡ s → waiting_for s (take (i + 1) queue) ≡ waiting_for s (take i queue) ++ ((get_or queue i no_write).content ∷ [])
-waiting_then s queue i h e =
-    ap (waiting_for s) (take_more queue i no_write h) ∙ waiting_more s (take i queue) (get_or queue i no_write)
-    ∙ ap (λ (b : Bool). waiting_for s (take i queue) ++ cond b ((get_or queue i no_write).content ∷ []) []) (eq-eqb _ _ (sym e))
+pub waiting_at : (s k : ℕ) (queue : List WaitingWrite) → option_map (λ w. w.content) (slice_get (filter (λ w. eqb s w.sector) queue) k) ≡ slice_get (waiting_for s queue) k
+waiting_at s k queue = sym (slice_get-map (λ w. w.content) (filter (λ w. eqb s w.sector) queue) k) ∙ ap (λ (z : List (List ℕ)). slice_get z k) (waiting_filter s queue)
 
-pub waiting_else : (s : ℕ) (queue : List WaitingWrite) (i : ℕ) → i < length queue → ((get_or queue i no_write).sector ≡ s → ⊥) → waiting_for s (take (i + 1) queue) ≡ waiting_for s (take i queue)
-waiting_else s queue i h e =
-    ap (waiting_for s) (take_more queue i no_write h) ∙ waiting_more s (take i queue) (get_or queue i no_write)
-    ∙ ap (λ (b : Bool). waiting_for s (take i queue) ++ cond b ((get_or queue i no_write).content ∷ []) []) (ne_eqb _ _ (λ z. e (sym z))) ∙ append-nil (waiting_for s (take i queue))
+-- a queue's iterator gives its items from the back too
+back_none : (s t : _) → deque_iter_steps_back {X = WaitingWrite} s None t → length (reverse (deque_iter_rest s)) ≡ 0
+back_none s t h = length-reverse (deque_iter_rest s) ∙ h.0
 
-pub count_then : (xs ys : List (List ℕ)) (b : List ℕ) (k : ℕ) → ys ≡ xs ++ (b ∷ []) → k ≡ length xs → k + 1 ≡ length ys
-count_then xs ys b k e h = rw e (simp length-append (omega arith))
+back_some : (s : _) (x : Bor WaitingWrite) (t : _) → deque_iter_steps_back s (Some x) t → reverse (deque_iter_rest s) ≡ x.now ∷ reverse (deque_iter_rest t)
+back_some s x t h = ap reverse h ∙ reverse-append (deque_iter_rest t) (x.now ∷ [])
 
--- the member at the place of the last, and at another
-pub last_hit : (xs : List (List ℕ)) (b d : List ℕ) (k p : ℕ) → k ≡ length xs → k ≡ p → get_or (xs ++ (b ∷ [])) p d ≡ b
-last_hit xs b d k p e h = ap (λ (i : ℕ). get_or (xs ++ (b ∷ [])) i d) (sym h ∙ e) ∙ get_or-append_seam xs b [] d
-
-pub last_miss : (xs : List (List ℕ)) (b d : List ℕ) (p : ℕ) → ¬ (length xs ≡ p) → get_or (xs ++ (b ∷ [])) p d ≡ get_or xs p d
-last_miss [] b d zero n = absurd (n refl)
-last_miss [] b d (suc p) n = refl
-last_miss (x ∷ xs) b d zero n = refl
-last_miss (x ∷ xs) b d (suc p) n = last_miss xs b d p (λ e. n (ap suc e))
+pub yields_back : (s : _) (queue : List WaitingWrite) → deque_iter_rest s ≡ queue → YieldsList (deque_iter_steps_back {X = WaitingWrite}) (λ y. y.now) s (reverse queue)
+yields_back s queue e =
+    subst (λ (z : List WaitingWrite). YieldsList (deque_iter_steps_back {X = WaitingWrite}) (λ y. y.now) s (reverse z)) e
+    (YieldsList-from_shown deque_iter_steps_back (λ y. y.now) (λ i. reverse (deque_iter_rest i)) back_none back_some s)
 
 -- each write has 512 bytes
 and_then : (a b c : Bool) → (a && b) ≡ true → (b ≡ true → c ≡ true) → (a && c) ≡ true
@@ -63,28 +63,8 @@ pub full_more : (queue : List WaitingWrite) (w : WaitingWrite) → all_full queu
 full_more [] w h l = ap (λ (b : Bool). b && true) (eq-eqb _ _ l)
 full_more (v ∷ queue) w h l = and_then (eqb (length v.content) 512) (all_full queue) (all_full (queue ++ (w ∷ []))) h (λ k. full_more queue w k l)
 
-pub few_more : (queue queue' : List WaitingWrite) (w : WaitingWrite) → queue' ≡ queue ++ (w ∷ []) → length queue < 16 → length queue' ≤ 16
-few_more queue queue' w e h = rw e (simp length-append (omega arith))
-
 pub full_first : (w : WaitingWrite) (queue : List WaitingWrite) → all_full (w ∷ queue) ≡ true → length w.content ≡ 512
 full_first w queue h = eqb-true _ _ ((and-eq-true_iff (eqb (length w.content) 512) (all_full queue)).0 h).0
 
 pub full_rest : (w : WaitingWrite) (queue : List WaitingWrite) → all_full (w ∷ queue) ≡ true → all_full queue ≡ true
 full_rest w queue h = ((and-eq-true_iff (eqb (length w.content) 512) (all_full queue)).0 h).1
-
-pub full_removed : (queue : List WaitingWrite) (i : ℕ) → all_full queue ≡ true → all_full (remove queue i) ≡ true
-full_removed [] zero h = refl
-full_removed [] (suc i) h = refl
-full_removed (w ∷ queue) zero h = full_rest w queue h
-full_removed (w ∷ queue) (suc i) h = and_then (eqb (length w.content) 512) (all_full queue) (all_full (remove queue i)) h (full_removed queue i)
-
-pub few_removed : (queue queue' : List WaitingWrite) (i : ℕ) → queue' ≡ remove queue i → length queue ≤ 16 → length queue' ≤ 16
-few_removed queue queue' i e h = rw e (simp (length-append, length-take, length-drop) (omega arith))
-
-full_at : (queue : List WaitingWrite) (i : ℕ) (d : WaitingWrite) → i < length queue → all_full queue ≡ true → length (get_or queue i d).content ≡ 512
-full_at [] i d lt h = absurd (omega arith)
-full_at (w ∷ queue) zero d lt h = full_first w queue h
-full_at (w ∷ queue) (suc i) d lt h = let k : i < length queue = omega arith in full_at queue i d k (full_rest w queue h)
-
-pub full_taken : (queue : List WaitingWrite) (i : ℕ) (w : WaitingWrite) → w ≡ get_or queue i w → i < length queue → all_full queue ≡ true → length w.content ≡ 512
-full_taken queue i w e lt h = ap (λ (v : WaitingWrite). length v.content) e ∙ full_at queue i w lt h

@@ -1,4 +1,5 @@
 pub mod Sectors
+pub mod Rewrites
 pub mod Full
 pub mod Image
 pub mod Lawful

@@ -16,18 +16,18 @@ plain_number = layer_number PlainLayer
 
 -- a plain image: no write ever waits
 abbrev pub plain_meaning : PlainImage → Meaning
-plain_meaning p = image_meaning plain_number p.sick p.bytes.now []
+plain_meaning p = image_meaning plain_number p.sectors.sick p.sectors.bytes.now []
 
 -- what holds of every device holds of a plain image
 abbrev pub plain_lawful : (p : PlainImage) → Lawful (plain_meaning p)
-plain_lawful p = image_lawful plain_number p.sick p.bytes.now [] refl
+plain_lawful p = image_lawful plain_number p.sectors.sick p.sectors.bytes.now [] refl
 
 -- p is made over lent bytes: the meaning, the sick sectors, the bytes and who lent them
 pub record PlainMade (sick_ones : List (Option ℕ)) (lent : MutBor (List ℕ)) (p : PlainImage) : Type 0 where
   pub meaning : plain_meaning p ≡ image_meaning plain_number sick_ones lent.now []
-  pub sick : p.sick ≡ sick_ones
-  pub bytes : p.bytes.now ≡ lent.now
-  pub lender : p.bytes.ghost_name ≡ lent.ghost_name
+  pub sick : p.sectors.sick ≡ sick_ones
+  pub bytes : p.sectors.bytes.now ≡ lent.now
+  pub lender : p.sectors.bytes.ghost_name ≡ lent.ghost_name
 
 -- a read of sector s into a buffer: the answer, the buffer, and that nothing else changes
 pub record PlainReads (p : PlainImage) (s : ℕ) (old : List ℕ) (r : Answer) (n : PlainImage) (new : List ℕ) : Type 0 where
@@ -43,10 +43,10 @@ replaced s b at t = cond (t == s) (held [] b) (at t)
 pub record PlainWrites (p : PlainImage) (s : ℕ) (b : List ℕ) (r : Answer) (n : PlainImage) : Type 0 where
   pub answer : r ≡ answer_of (standing plain_number (plain_meaning p) s)
   pub lists : (t : ℕ) → (plain_meaning n).sector t ≡ cond (is_ok r) (replaced s b (plain_meaning p).sector t) ((plain_meaning p).sector t)
-  pub bytes : n.bytes.now ≡ cond (is_ok r) (over p.bytes.now s b) p.bytes.now
+  pub bytes : n.sectors.bytes.now ≡ cond (is_ok r) (over p.sectors.bytes.now s b) p.sectors.bytes.now
   pub power : (plain_meaning n).power ≡ Ok tt
-  pub sick : n.sick ≡ p.sick
-  pub lender : n.bytes.ghost_name ≡ p.bytes.ghost_name
+  pub sick : n.sectors.sick ≡ p.sectors.sick
+  pub lender : n.sectors.bytes.ghost_name ≡ p.sectors.bytes.ghost_name
 
 -- a flush is accepted and changes nothing
 pub record PlainFlushes (p : PlainImage) (r : Answer) (n : PlainImage) : Type 0 where

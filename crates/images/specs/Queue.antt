@@ -10,10 +10,14 @@ abbrev pub without_oldest : List WaitingWrite → List WaitingWrite
 without_oldest [] = []
 without_oldest (w ∷ queue) = queue
 
--- the bytes once the oldest write is settled; a write past the end settles nowhere
+-- the bytes once a write is settled; a write past the end settles nowhere
+abbrev pub settle_write : List ℕ → WaitingWrite → List ℕ
+settle_write bytes w = cond (nat_lt w.sector (whole bytes)) (over bytes w.sector w.content) bytes
+
+-- the bytes once the oldest write is settled
 abbrev pub settle_oldest : List ℕ → List WaitingWrite → List ℕ
 settle_oldest bytes [] = bytes
-settle_oldest bytes (w ∷ queue) = cond (nat_lt w.sector (whole bytes)) (over bytes w.sector w.content) bytes
+settle_oldest bytes (w ∷ queue) = settle_write bytes w
 
 -- the bytes once all are settled, oldest first
 abbrev pub settle_all : List ℕ → List WaitingWrite → List ℕ

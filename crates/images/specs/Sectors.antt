@@ -1,7 +1,7 @@
 -- The bytes of an image taken as sectors of 512 bytes, and which of them are sick.
-use Rattle.std.specs.Prelude.{ℕ, ◌*◌, ◌/◌, min, Bool, false, cond, ◌||◌, List, ◌++◌, length, take, drop, Some, None, Option, ◌==◌, nat_lt, slice_index_or}
-use Rattle.device.specs.declared.fault.Fault.{Fault}
-use Rattle.device.specs.Faults.{out_of_range, sick_at}
+use Rattle.std.specs.Prelude.{ℕ, ◌*◌, ◌/◌, min, Bool, false, cond, List, ◌++◌, length, take, drop, Some, None, Ok, Err, Option, ◌==◌, nat_lt}
+use Rattle.std.specs.List.{list_any}
+use Rattle.device.specs.Faults.{Answer, out_of_range, sick_at}
 
 -- how many whole sectors the bytes have, 65,536 at most
 abbrev pub whole : List ℕ → ℕ
@@ -16,14 +16,14 @@ abbrev pub over : List ℕ → ℕ → List ℕ → List ℕ
 over bytes s b = take (512 * s) bytes ++ (b ++ drop 512 (drop (512 * s) bytes))
 
 -- an entry names sector s
-abbrev pub names : Option ℕ → ℕ → Bool
-names None s = false
-names (Some k) s = k == s
+abbrev pub names : ℕ → Option ℕ → Bool
+names s None = false
+names s (Some k) = k == s
 
--- one of the four entries names sector s
+-- one of the entries names sector s
 abbrev pub is_sick : List (Option ℕ) → ℕ → Bool
-is_sick sick s = names (slice_index_or sick 0 None) s || (names (slice_index_or sick 1 None) s || (names (slice_index_or sick 2 None) s || names (slice_index_or sick 3 None) s))
+is_sick sick s = list_any (names s) sick
 
--- what stands in the way of a read or a write of sector s: range first, then sickness
-abbrev pub refusal : ℕ → ℕ → List (Option ℕ) → ℕ → Option Fault
-refusal layer size sick s = cond (nat_lt s size) (cond (is_sick sick s) (Some (sick_at layer s)) None) (Some (out_of_range layer s))
+-- what a read or a write of sector s answers: range first, then sickness
+abbrev pub refusal : ℕ → ℕ → List (Option ℕ) → ℕ → Answer
+refusal layer size sick s = cond (nat_lt s size) (cond (is_sick sick s) (Err (sick_at layer s)) (Ok tt)) (Err (out_of_range layer s))

@@ -1,8 +1,11 @@
 // The writes that wait in a queued image.
-ghost use Rattle.std.specs.Prelude.{◌≡◌, ◌≤◌, true, length, vec_capacity};
+ghost use Rattle.std.specs.Prelude.{◌≡◌, ℕ, ◌≤◌, ◌<◌, true, List, [], ◌∷◌, ◌++◌, length, IfOk, IfNone, unwrap_or, slice_get};
+ghost use Rattle.std.specs.VecDeque.{deque_capacity};
+ghost use Rattle.std.specs.Option.{option_copied, option_to_list};
 ghost use Rattle.images.specs.Full.{all_full};
 
-mod calls;
+use std::alloc::{AllocError, Global};
+use std::collections::VecDeque;
 
 // A write that is accepted and not yet settled.
 #[derive(Clone, Copy)]
@@ -12,10 +15,91 @@ pub struct WaitingWrite {
 }
 
 // The waiting writes, oldest first. Room for 16 is reserved, and no more than 16 wait.
+// Its facts are ghost fields and no Model, in which the images' law, that contents are whole, could not see `full`;
+// and `full` stands here and not in WaitingWrite, where each clause that makes a write would carry a proof of it.
 #[derive(Drop)]
 pub struct Queue {
-    writes: Vec<WaitingWrite>,
-    ghost room: { 16 ≤ vec_capacity writes },
+    writes: VecDeque<WaitingWrite>,
+    ghost room: { 16 ≤ deque_capacity writes },
     ghost few: { length writes.items ≤ 16 },
     ghost full: { all_full writes.items ≡ true },
+}
+
+impl Queue {
+    ghost use Rattle.device.specs.Meaning.{newest};
+    ghost use Rattle.images.specs.Image.{waiting_for, listed};
+    ghost use Rattle.images.specs.Queue.{left_of};
+
+    // An empty queue.
+    pub fn new(heap: Global) -> Result<Queue, AllocError>
+        ensures { IfOk result (λ q. q.writes.items ≡ []) }
+    {
+        let writes = VecDeque::with_capacity(heap, 16)?;
+        Ok(Queue { writes })
+    }
+
+    // How many writes wait.
+    pub fn len(&self) -> usize
+        ensures { result ≡ length self.now.writes.items }
+    {
+        self.writes.len()
+    }
+
+    // Lets go of all of them.
+    pub fn clear(&mut self)
+        ensures { self.new.writes.items ≡ [] }
+    {
+        self.writes.clear();
+    }
+
+    // Adds a write, the newest.
+    pub fn add(&mut self, sector: u32, content: &[u8; 512])
+        requires { length self.old.writes.items < 16 }
+        ensures { self.new.writes.items ≡ self.old.writes.items ++ (record { sector = sector; content = content.now }) ∷ [] }
+    {
+        let write = WaitingWrite {
+            sector,
+            content: *content,
+        };
+        self.writes.push_back_reserved(write);
+    }
+
+    // Takes out the oldest write, if one waits.
+    pub fn take_oldest(&mut self) -> Option<WaitingWrite>
+        ensures oldest { self.old.writes.items ≡ option_to_list result ++ self.new.writes.items }
+        ensures none { IfNone result (self.old.writes.items ≡ []) }
+    {
+        self.writes.pop_front()
+    }
+
+    // The newest content that waits for the sector, if one does.
+    pub fn newest(&self, sector: u32) -> Option<&[u8; 512]>
+        ensures { (x : List ℕ) → unwrap_or (option_copied result) x ≡ newest (listed x (waiting_for sector self.now.writes.items)) }
+    {
+        self.writes
+            .iter()
+            .rfind(|write| write.sector == sector)
+            .map(|write| &write.content)
+    }
+
+    // The content that waits for the sector at the place, oldest first, if there is one.
+    fn waiting(&self, sector: u32, place: usize) -> Option<&[u8; 512]>
+        ensures { option_copied result ≡ slice_get (waiting_for sector self.now.writes.items) place }
+    {
+        self.writes
+            .iter()
+            .filter(|write| write.sector == sector)
+            .nth(place)
+            .map(|write| &write.content)
+    }
+
+    // What the choice leaves of the sector in place of its settled content: choice 0 keeps that, and so does any where none waits.
+    pub fn left(&self, sector: u32, choice: u8) -> Option<&[u8; 512]>
+        ensures { (x : List ℕ) → unwrap_or (option_copied result) x ≡ left_of choice x (waiting_for sector self.now.writes.items) }
+    {
+        let place = usize::from(choice).checked_sub(1)?;
+        // Up to 16 writes are looked through a second time: a search that also counts would be no plainer.
+        self.waiting(sector, 0)?;
+        Some(self.waiting(sector, place).unwrap_or(&[0; 512]))
+    }
 }

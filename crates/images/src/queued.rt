@@ -1,24 +1,21 @@
 // The queued image.
-ghost use Rattle.std.specs.Prelude.{◌≡◌, [], ◌∷◌, map, IfOk, Ok};
-ghost use Rattle.device.specs.Calls.{Reads, Writes, Flushes, standing};
+ghost use Rattle.std.specs.Prelude.{◌≡◌, ◌<◌, [], ◌∷◌, map, length, IfOk, Ok};
+ghost use Rattle.device.specs.Calls.{Reads, Writes, Flushes};
 ghost use Rattle.device.specs.Cuts.{EachCut, cut_by};
 ghost use Rattle.images.specs.Sectors.{whole};
-ghost use Rattle.images.specs.Queued.{queued_number, queued_meaning, queued_lawful, QueuedMade, QueuedReads, QueuedWrites, QueuedFlushes, QueuedCuts};
+ghost use Rattle.images.specs.Queue.{room_queue, room_bytes};
+ghost use Rattle.images.specs.Queued.{queued_number, waiting, queued_meaning, queued_lawful, Becomes, QueuedMade, QueuedReads, QueuedWrites, QueuedFlushes, QueuedCuts};
 
 use crate::queue::Queue;
-use crate::sectors::{refusal, whole_sectors};
+use crate::sectors::Sectors;
 use device::{CuttableDevice, Device, Fault, Layer};
 use std::alloc::{AllocError, Global};
 
-mod choosing;
-mod reading;
-mod settling;
-
 // An image with up to 16 writes that wait before they settle.
+// It is a type beside PlainImage: one type for both would have a plain image reserve memory, and fail where there is none.
 #[derive(Drop)]
 pub struct QueuedImage<'a> {
-    bytes: &'a mut [u8],
-    sick: [Option<u32>; 4],
+    sectors: Sectors<'a>,
     queue: Queue,
 }
 
@@ -32,14 +29,20 @@ impl<'a> QueuedImage<'a> {
         ensures { IfOk result (λ p. QueuedMade sick bytes.entry p) }
     {
         let queue = Queue::new(heap)?;
-        Ok(QueuedImage { bytes, sick, queue })
+        let sectors = Sectors { bytes, sick };
+        Ok(QueuedImage { sectors, queue })
     }
 
-    // What stands in the way of a read or a write of the sector.
-    fn fault_at(&self, sector: u32) -> Option<Fault>
-        ensures { result ≡ standing queued_number (queued_meaning self.now) sector }
+    // Where 16 wait, settles the oldest.
+    fn make_room(&mut self)
+        ensures room { length (waiting self.new) < 16 }
+        ensures exact { Becomes self.old (room_bytes self.old.sectors.bytes.now (waiting self.old)) (room_queue (waiting self.old)) self.new }
     {
-        refusal(Layer::QueuedImage, self.size(), &self.sick, sector)
+        if self.queue.len() >= 16
+            && let Some(write) = self.queue.take_oldest()
+        {
+            self.sectors.settle(&write);
+        }
     }
 }
 
@@ -58,15 +61,16 @@ impl<'a> Device for QueuedImage<'a> {
 
     fn size(&self) -> u32
         ensures meets { result ≡ (queued_meaning self.now).size }
-        ensures exact { result ≡ whole self.now.bytes.now }
+        ensures exact { result ≡ whole self.now.sectors.bytes.now }
     {
-        whole_sectors(self.bytes)
+        self.sectors.count()
     }
 
     fn power(&self) -> Result<(), Fault>
         ensures meets { result ≡ (queued_meaning self.now).power }
         ensures exact { result ≡ Ok tt }
     {
+        // An image always has power.
         Ok(())
     }
 
@@ -75,10 +79,11 @@ impl<'a> Device for QueuedImage<'a> {
         ensures exact { QueuedReads self.old sector buffer.old result self.new buffer.new }
     {
         // A refused read leaves the buffer as it was.
-        if let Some(fault) = self.fault_at(sector) {
-            return Err(fault);
+        self.sectors.ready(Layer::QueuedImage, sector)?;
+        match self.queue.newest(sector) {
+            Some(content) => *buffer = *content,
+            None => self.sectors.load(sector, buffer),
         }
-        self.fetch(sector, buffer);
         Ok(())
     }
 
@@ -86,10 +91,9 @@ impl<'a> Device for QueuedImage<'a> {
         ensures meets { Writes queued_number (queued_meaning self.old) sector content.now result (queued_meaning self.new) }
         ensures exact { QueuedWrites self.old sector content.now result self.new }
     {
-        if let Some(fault) = self.fault_at(sector) {
-            return Err(fault);
-        }
-        self.place(sector, content);
+        self.sectors.ready(Layer::QueuedImage, sector)?;
+        self.make_room();
+        self.queue.add(sector, content);
         Ok(())
     }
 
@@ -97,7 +101,10 @@ impl<'a> Device for QueuedImage<'a> {
         ensures meets { Flushes (queued_meaning self.old) result (queued_meaning self.new) }
         ensures exact { QueuedFlushes self.old result self.new }
     {
-        self.settle_all();
+        // Oldest first, so that of a sector's writes the newest is what stays.
+        while let Some(write) = self.queue.take_oldest() {
+            self.sectors.settle(&write);
+        }
         Ok(())
     }
 }
@@ -112,6 +119,12 @@ impl<'a> CuttableDevice for QueuedImage<'a> {
         ensures each { EachCut (queued_meaning self.old ∷ []) (queued_meaning self.new ∷ []) }
         ensures exact { QueuedCuts self.old plan.now self.new }
     {
-        self.leave_chosen(plan);
+        for sector in 0..self.size() {
+            let choice = plan.get(sector as usize).copied().unwrap_or(0);
+            if let Some(content) = self.queue.left(sector, choice) {
+                self.sectors.store(sector, content);
+            }
+        }
+        self.queue.clear();
     }
 }

@@ -1,64 +1,63 @@
-// Bytes taken as sectors, and the sectors that are sick.
-ghost use Rattle.std.specs.Prelude.{◌≡◌, ◌+◌, ◌*◌, ◌≤◌, length};
+// The bytes of an image taken as sectors, and which of them are sick.
+ghost use Rattle.std.specs.Prelude.{◌≡◌, ◌<◌};
 ghost use Rattle.device.specs.Faults.{layer_number};
-ghost use Rattle.images.specs.Sectors.{whole, content, over, names, is_sick, refusal};
+ghost use Rattle.images.specs.Sectors.{whole, content, refusal};
+ghost use Rattle.images.specs.Queue.{settle_write};
+ghost use Rattle.images.specs.Rewrites.{Rewrites, Stores};
 
+use crate::queue::WaitingWrite;
+use device::fault::in_range;
 use device::{Fault, Layer};
 
-// How many whole sectors the bytes have, 65,536 at most.
-pub fn whole_sectors(bytes: &[u8]) -> u32
-    ensures { result ≡ whole bytes.now }
-{
-    (bytes.len() / 512).min(65536) as u32
+// Bytes that the caller lends, taken as sectors, and up to four sectors that are sick.
+#[derive(Drop)]
+pub struct Sectors<'a> {
+    pub bytes: &'a mut [u8],
+    pub sick: [Option<u32>; 4],
 }
 
-// Copies the sector into the buffer.
-pub fn load(bytes: &[u8], sector: u32, buffer: &mut [u8; 512])
-    requires { 512 * sector + 512 ≤ length bytes.now }
-    ensures { buffer.new ≡ content bytes.now sector }
-{
-    let start = 512 * sector as usize;
-    buffer.copy_from_slice(&bytes[start..start + 512]);
-}
-
-// Copies the content into the sector.
-pub fn store(bytes: &mut [u8], sector: u32, content: &[u8; 512])
-    requires { 512 * sector + 512 ≤ length bytes.old }
-    ensures { bytes.new ≡ over bytes.old sector content.now }
-{
-    let start = 512 * sector as usize;
-    bytes[start..start + 512].copy_from_slice(content);
-}
-
-// Whether the entry names the sector.
-fn names(entry: Option<u32>, sector: u32) -> bool
-    ensures { result ≡ names entry sector }
-{
-    match entry {
-        Some(number) => number == sector,
-        None => false,
+impl<'a> Sectors<'a> {
+    // How many whole sectors there are, 65,536 at most.
+    pub fn count(&self) -> u32
+        ensures { result ≡ whole self.now.bytes.now }
+    {
+        (self.bytes.len() / 512).min(65536) as u32
     }
-}
 
-// Whether the sector is sick.
-pub fn is_sick(sick: &[Option<u32>; 4], sector: u32) -> bool
-    ensures { result ≡ is_sick sick.now sector }
-{
-    names(sick[0], sector)
-        || names(sick[1], sector)
-        || names(sick[2], sector)
-        || names(sick[3], sector)
-}
+    // Whether the sector may be read and written: the layer has it, and it is not sick.
+    pub fn ready(&self, layer: Layer, sector: u32) -> Result<(), Fault>
+        ensures { result ≡ refusal (layer_number layer) (whole self.now.bytes.now) self.now.sick sector }
+    {
+        in_range(layer.into(), self.count(), sector)?;
+        if self.sick.contains(&Some(sector)) {
+            return Err(Fault::sick(layer.into(), sector));
+        }
+        Ok(())
+    }
 
-// What stands in the way of a read or a write of the sector.
-pub fn refusal(layer: Layer, size: u32, sick: &[Option<u32>; 4], sector: u32) -> Option<Fault>
-    ensures { result ≡ refusal (layer_number layer) size sick.now sector }
-{
-    if sector >= size {
-        Some(Fault::out_of_range(layer.into(), sector))
-    } else if is_sick(sick, sector) {
-        Some(Fault::sick(layer.into(), sector))
-    } else {
-        None
+    // Copies the sector into the buffer.
+    pub fn load(&self, sector: u32, buffer: &mut [u8; 512])
+        requires { sector < whole self.now.bytes.now }
+        ensures { buffer.new ≡ content self.now.bytes.now sector }
+    {
+        let start = 512 * sector as usize;
+        buffer.copy_from_slice(&self.bytes[start..start + 512]);
+    }
+
+    // Copies the content into the sector.
+    pub fn store(&mut self, sector: u32, content: &[u8; 512])
+        requires { sector < whole self.old.bytes.now }
+        ensures { Stores self.old sector content.now self.new }
+    {
+        let start = 512 * sector as usize;
+        self.bytes[start..start + 512].copy_from_slice(content);
+    }
+    // Settles the write; one past the last whole sector settles nowhere.
+    pub fn settle(&mut self, write: &WaitingWrite)
+        ensures { Rewrites self.old (settle_write self.old.bytes.now write.now) self.new }
+    {
+        if write.sector < self.count() {
+            self.store(write.sector, &write.content);
+        }
     }
 }
