@@ -1,11 +1,13 @@
 -- What a fuse means over the device below it.
-use Rattle.std.specs.Prelude.{◌≡◌, ℕ, zero, suc, ◌-◌, ◌<◌, Bool, true, false, cond, List, is_ok, Some, None, Err, Option, ◌==◌, nat_lt}
-use Rattle.device.specs.declared.fault.Cause.TheVariants.{PowerLost}
+use Rattle.std.specs.Prelude.{◌≡◌, ℕ, zero, suc, ◌-◌, ◌<◌, Bool, true, false, if◌then◌else◌, List, is_ok, Some, None, Ok, Err, nat_eq, nat_lt}
+use Rattle.std.specs.Bool.{then_some}
+use Rattle.std.specs.Option.{option_eq, option_map}
+use Rattle.std.specs.Result.{result_and}
 use Rattle.device.specs.declared.fault.Layer.TheVariants.{Fuse as FuseKind}
 use Rattle.device.specs.declared.fault.Fault.{Fault}
-use Rattle.device.specs.Faults.{layer_number, out_of_range, raised_answer, Answer}
+use Rattle.device.specs.Faults.{layer_number, power_lost, in_range, raised_answer, Answer}
 use Rattle.device.specs.Meaning.{Meaning, raised_sector}
-use Rattle.device.specs.Calls.{ByFault, Refused, Reads, Writes, Flushes}
+use Rattle.device.specs.Calls.{ByAnswer, Refused, Reads, Writes, Flushes}
 use Rattle.layers.specs.declared.fuse.Counter.{Counter}
 use Rattle.layers.specs.declared.fuse.Fuse.{Fuse}
 
@@ -15,19 +17,23 @@ fuse_layer = layer_number FuseKind
 
 -- a counter that never blows
 abbrev pub unset : Counter
-unset = record { remaining = 0; blown = false }
+unset = record { remaining = None }
 
--- a counter that is set; a blown one stays as it is
+-- a counter is blown where none are left of the number that it was set to
+abbrev pub is_blown : Counter → Bool
+is_blown c = option_eq nat_eq c.remaining (Some 0)
+
+-- a counter that is set, or unset by 0; a blown one stays as it is
 abbrev pub set_to : ℕ → Counter → Counter
-set_to n c = cond c.blown c (record { remaining = n; blown = false })
+set_to n c = if is_blown c then c else record { remaining = then_some (nat_lt 0 n) n }
 
--- a counter after one more accepted write or flush: it blows exactly if one was left
+-- a counter after one more accepted write or flush: one fewer is left, if it is set
 abbrev pub counted : Counter → Counter
-counted c = record { remaining = c.remaining - 1; blown = (c.remaining == 1) }
+counted c = record { remaining = option_map (λ n. n - 1) c.remaining }
 
 -- an accepted call is counted, and no other
 abbrev pub Counts : Answer → Counter → Counter → Type 0
-Counts r c c' = c' ≡ cond (is_ok r) (counted c) c
+Counts r c c' = c' ≡ (if is_ok r then counted c else c)
 
 -- a counter after k accepted writes and flushes
 abbrev pub after : ℕ → Counter → Counter
@@ -37,75 +43,66 @@ after (suc k) c = counted (after k c)
 -- a counter set to n blows in the n-th accepted call and not before, and one that is not set never does
 pub record BlowsInTime : Type 0 where
   pub never : (k : ℕ) → after k unset ≡ unset
-  pub before : (n k : ℕ) → k < n → (after k (set_to n unset)).blown ≡ false
-  pub last : (n : ℕ) → 0 < n → (after n (set_to n unset)).blown ≡ true
+  pub before : (n k : ℕ) → k < n → is_blown (after k (set_to n unset)) ≡ false
+  pub last : (n : ℕ) → 0 < n → is_blown (after n (set_to n unset)) ≡ true
 
--- the fault of a blown fuse
-abbrev pub blown_fault : Fault
-blown_fault = record { cause = PowerLost; sector = 0; layer = fuse_layer; depth = 0 }
+-- a fuse's own power: lost where it is blown
+abbrev pub own_power : Counter → Answer
+own_power c = if is_blown c then Err (power_lost fuse_layer) else Ok tt
 
 -- power is off where the fuse is blown, and else as below
-abbrev pub fused_power : Bool → Answer → Answer
-fused_power blown p = cond blown (Err blown_fault) (raised_answer p)
+abbrev pub fused_power : Counter → Answer → Answer
+fused_power c p = result_and (own_power c) (raised_answer p)
 
 -- a device below a fuse
-abbrev pub fused : Bool → Meaning → Meaning
-fused blown m = record { size = m.size; power = fused_power blown m.power; sector = λ s. raised_sector (m.sector s) }
+abbrev pub fused : Counter → Meaning → Meaning
+fused c m = record { size = m.size; power = fused_power c m.power; sector = λ s. raised_sector (m.sector s) }
 
 -- what a fuse means, by what the device in it means
 abbrev pub fuse_meaning : {D : Type 0} → (D → Meaning) → Fuse D → Meaning
-fuse_meaning means f = fused f.counter.blown (means f.inner)
+fuse_meaning means f = fused f.counter (means f.inner)
 
--- the fault of a blown fuse, if it is
-abbrev pub blown_stands : Bool → Option Fault
-blown_stands blown = cond blown (Some blown_fault) None
+-- a fuse's own answer to a read or a write of sector s: range first, then that it is blown
+abbrev pub fuse_ready : Counter → ℕ → ℕ → Answer
+fuse_ready c size s = result_and (in_range fuse_layer size s) (own_power c)
 
--- what the fuse itself puts in the way of a read or a write: range first, then that it is blown
-abbrev pub fuse_stands : Bool → ℕ → ℕ → Option Fault
-fuse_stands blown size s = cond (nat_lt s size) (blown_stands blown) (Some (out_of_range fuse_layer s))
-
--- a read below, and its answer raised
-abbrev pub PassedRead : ℕ → Meaning → ℕ → List ℕ → Answer → Meaning → List ℕ → Type 0
-PassedRead layer m s buffer r n buffer' = (q : Answer) × Reads layer m s buffer q n buffer' × (r ≡ raised_answer q)
-
--- a write below, and its answer raised
-abbrev pub PassedWrite : ℕ → Meaning → ℕ → List ℕ → Answer → Meaning → Type 0
-PassedWrite layer m s b r n = (q : Answer) × Writes layer m s b q n × (r ≡ raised_answer q)
-
--- a flush below, and its answer raised
-abbrev pub PassedFlush : Meaning → Answer → Meaning → Type 0
-PassedFlush m r n = (q : Answer) × Flushes m q n × (r ≡ raised_answer q)
+-- where the fuse's own answer is a fault, Refusal holds of it; else the call was made below and its answer raised
+abbrev pub Passed : Answer → (Fault → Type 0) → (Answer → Type 0) → Answer → Type 0
+Passed own Refusal Made r = ByAnswer own ((q : Answer) × Made q × (r ≡ raised_answer q)) Refusal
 
 -- a read of the device below is made unless the fuse itself stands in the way
-abbrev pub FuseReads : Bool → ℕ → Meaning → ℕ → List ℕ → Answer → Meaning → List ℕ → Type 0
-FuseReads blown layer m s buffer r n buffer' =
-    ByFault (fuse_stands blown m.size s) (λ f. Refused f m r n × (buffer' ≡ buffer)) (PassedRead layer m s buffer r n buffer')
+abbrev pub FuseReads : Counter → ℕ → Meaning → ℕ → List ℕ → Answer → Meaning → List ℕ → Type 0
+FuseReads c layer m s b r n b' =
+    Passed (fuse_ready c m.size s) (λ f. Refused f m r n × (b' ≡ b)) (λ q. Reads layer m s b q n b') r
 
 -- a write of the device below is made unless the fuse itself stands in the way
-abbrev pub FuseWrites : Bool → ℕ → Meaning → ℕ → List ℕ → Answer → Meaning → Type 0
-FuseWrites blown layer m s b r n = ByFault (fuse_stands blown m.size s) (λ f. Refused f m r n) (PassedWrite layer m s b r n)
+abbrev pub FuseWrites : Counter → ℕ → Meaning → ℕ → List ℕ → Answer → Meaning → Type 0
+FuseWrites c layer m s b r n = Passed (fuse_ready c m.size s) (λ f. Refused f m r n) (λ q. Writes layer m s b q n) r
 
 -- a flush of the device below is made unless the fuse is blown
-abbrev pub FuseFlushes : Bool → Meaning → Answer → Meaning → Type 0
-FuseFlushes blown m r n = ByFault (blown_stands blown) (λ f. Refused f m r n) (PassedFlush m r n)
+abbrev pub FuseFlushes : Counter → Meaning → Answer → Meaning → Type 0
+FuseFlushes c m r n = Passed (own_power c) (λ f. Refused f m r n) (λ q. Flushes m q n) r
 
 -- exactly what a fuse's read did: refused by the fuse itself, or else read below, its answer raised and nothing counted
 abbrev pub FuseFetched : {D : Type 0} → (D → Meaning) → (D → ℕ → List ℕ → Answer → D → List ℕ → Type 0) → Fuse D → ℕ → List ℕ → Answer → Fuse D → List ℕ → Type 0
 FuseFetched means Fetched f s b r f' b' =
-    ByFault (fuse_stands f.counter.blown (means f.inner).size s)
+    Passed (fuse_ready f.counter (means f.inner).size s)
     (λ e. (r ≡ Err e) × (f' ≡ f) × (b' ≡ b))
-    ((q : Answer) × Fetched f.inner s b q f'.inner b' × (r ≡ raised_answer q) × (f'.counter ≡ f.counter))
+    (λ q. Fetched f.inner s b q f'.inner b' × (f'.counter ≡ f.counter))
+    r
 
 -- exactly what a fuse's write did: refused by the fuse itself, or else written below, counted if accepted, and its answer raised
 abbrev pub FuseWrote : {D : Type 0} → (D → Meaning) → (D → ℕ → List ℕ → Answer → D → Type 0) → Fuse D → ℕ → List ℕ → Answer → Fuse D → Type 0
 FuseWrote means Wrote f s b r f' =
-    ByFault (fuse_stands f.counter.blown (means f.inner).size s)
+    Passed (fuse_ready f.counter (means f.inner).size s)
     (λ e. (r ≡ Err e) × (f' ≡ f))
-    ((q : Answer) × Wrote f.inner s b q f'.inner × (r ≡ raised_answer q) × Counts r f.counter f'.counter)
+    (λ q. Wrote f.inner s b q f'.inner × Counts q f.counter f'.counter)
+    r
 
 -- exactly what a fuse's flush did
 abbrev pub FuseFlushed : {D : Type 0} → (D → Answer → D → Type 0) → Fuse D → Answer → Fuse D → Type 0
 FuseFlushed Flushed f r f' =
-    ByFault (blown_stands f.counter.blown)
+    Passed (own_power f.counter)
     (λ e. (r ≡ Err e) × (f' ≡ f))
-    ((q : Answer) × Flushed f.inner q f'.inner × (r ≡ raised_answer q) × Counts r f.counter f'.counter)
+    (λ q. Flushed f.inner q f'.inner × Counts q f.counter f'.counter)
+    r

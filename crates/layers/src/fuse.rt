@@ -1,62 +1,54 @@
 // A fuse: cuts its own power after a chosen number of accepted writes and flushes.
-ghost use Rattle.std.specs.Prelude.{◌≡◌, false, ◌∷◌, map};
-ghost use Rattle.device.specs.Faults.{raised_answer};
+ghost use Rattle.std.specs.Prelude.{◌≡◌, ◌∷◌, map};
 ghost use Rattle.device.specs.Calls.{Reads, Writes, Flushes};
 ghost use Rattle.device.specs.Cuts.{EachCut, cut_by};
-ghost use Rattle.layers.specs.Fused.{unset, set_to, counted, BlowsInTime, Counts, blown_fault, fuse_layer, fused_power, fuse_meaning, FuseReads, FuseWrites, FuseFlushes, FuseFetched, FuseWrote, FuseFlushed};
+ghost use Rattle.layers.specs.Fused.{unset, is_blown, set_to, counted, BlowsInTime, Counts, fuse_layer, own_power, fused_power, fuse_meaning, fuse_ready, FuseReads, FuseWrites, FuseFlushes, FuseFetched, FuseWrote, FuseFlushed};
 ghost use Rattle.layers.specs.FusedLawful.{fused_lawful};
 ghost use Rattle.layers.specs.WholeCuts.{under_fuse};
 
-use device::fault::raised;
+use device::fault::{in_range, raised};
 use device::{CuttableDevice, Device, Fault, Layer};
 
-// What a fuse counts: how many accepted writes and flushes it still takes, 0 where it is not set.
-#[derive(Clone, Copy)]
+// How many accepted writes and flushes a fuse still takes: none are left where it is blown, and there is no number where it is not set.
+#[derive(Clone, Copy, Default)]
 struct Counter {
-    remaining: u32,
-    blown: bool,
+    remaining: Option<u32>,
 }
 
 impl Counter {
-    // A counter that never blows.
-    fn new() -> Counter
-        ensures made { result ≡ unset }
-        ensures blows { BlowsInTime }
+    // Whether none are left of the number that was set.
+    fn is_blown(self) -> bool
+        ensures { result ≡ is_blown self }
     {
-        Counter {
-            remaining: 0,
-            blown: false,
+        self.remaining == Some(0)
+    }
+
+    // The fuse's own power: lost where it is blown.
+    fn power(self) -> Result<(), Fault>
+        ensures { result ≡ own_power self }
+    {
+        if self.is_blown() {
+            Err(Fault::power_lost(Layer::Fuse.into()))
+        } else {
+            Ok(())
         }
     }
 
-    // Sets the number that is left; a blown counter stays as it is.
+    // Sets the number that is left, and none at 0; a blown counter stays as it is.
     fn set(&mut self, remaining: u32)
         ensures { self.new ≡ set_to remaining self.old }
     {
-        if !self.blown {
-            self.remaining = remaining;
+        if !self.is_blown() {
+            self.remaining = (remaining > 0).then_some(remaining);
         }
     }
 
-    // Counts one call; the last one blows the fuse.
+    // Counts one accepted call; the last one blows the fuse.
     fn count(&mut self)
-        requires { self.old.blown ≡ false }
         ensures { self.new ≡ counted self.old }
     {
-        if self.remaining == 1 {
-            self.blown = true;
-        }
-        if self.remaining > 0 {
-            self.remaining -= 1;
-        }
+        self.remaining = self.remaining.map(|n| n.saturating_sub(1));
     }
-}
-
-// The fault of a blown fuse.
-fn blown_fault() -> Fault
-    ensures { result ≡ blown_fault }
-{
-    Fault::power_lost(Layer::Fuse.into())
 }
 
 // A device below a fuse.
@@ -73,7 +65,7 @@ impl<D> Fuse<D> {
         ensures blows { BlowsInTime }
     {
         Fuse {
-            counter: Counter::new(),
+            counter: Counter::default(),
             inner,
         }
     }
@@ -96,17 +88,12 @@ impl<D: Device> Fuse<D> {
         self.counter.set(remaining);
     }
 
-    // Counts a call that was accepted below, and raises its answer.
-    fn count_accepted(&mut self, answer: Result<(), Fault>) -> Result<(), Fault>
-        requires { self.old.counter.blown ≡ false }
-        ensures answer { result ≡ raised_answer answer }
-        ensures counts { Counts result self.old.counter self.new.counter }
-        ensures inner { self.new.inner ≡ self.old.inner }
+    // The fuse's own answer to a read or a write: range first, then that it is blown.
+    fn ready(&self, sector: u32) -> Result<(), Fault>
+        ensures { result ≡ fuse_ready self.now.counter (D.Device.meaning self.now.inner).size sector }
     {
-        if answer.is_ok() {
-            self.counter.count();
-        }
-        raised(answer)
+        in_range(Layer::Fuse.into(), self.size(), sector)?;
+        self.counter.power()
     }
 }
 
@@ -115,7 +102,7 @@ impl<D: Device> Device for Fuse<D> {
 
     ghost layer = { fuse_layer };
 
-    ghost lawful = { λ f. fused_lawful f.counter.blown (D.Device.lawful f.inner) };
+    ghost lawful = { λ f. fused_lawful f.counter (D.Device.lawful f.inner) };
 
     ghost fetched = { FuseFetched D.Device.meaning D.Device.fetched };
 
@@ -130,56 +117,43 @@ impl<D: Device> Device for Fuse<D> {
     }
 
     fn power(&self) -> Result<(), Fault>
-        ensures { result ≡ fused_power self.now.counter.blown (D.Device.meaning self.now.inner).power }
+        ensures { result ≡ fused_power self.now.counter (D.Device.meaning self.now.inner).power }
     {
-        if self.counter.blown {
-            return Err(blown_fault());
-        }
-        raised(self.inner.power())
+        self.counter.power().and(raised(self.inner.power()))
     }
 
     fn read(&mut self, sector: u32, buffer: &mut [u8; 512]) -> Result<(), Fault>
         ensures meets { Reads fuse_layer (fuse_meaning D.Device.meaning self.old) sector buffer.old result (fuse_meaning D.Device.meaning self.new) buffer.new }
         ensures counts { self.new.counter ≡ self.old.counter }
-        ensures below { FuseReads self.old.counter.blown D.Device.layer (D.Device.meaning self.old.inner) sector buffer.old result (D.Device.meaning self.new.inner) buffer.new }
+        ensures below { FuseReads self.old.counter D.Device.layer (D.Device.meaning self.old.inner) sector buffer.old result (D.Device.meaning self.new.inner) buffer.new }
         ensures exact { FuseFetched D.Device.meaning D.Device.fetched self.old sector buffer.old result self.new buffer.new }
     {
-        if sector >= self.size() {
-            return Err(Fault::out_of_range(Layer::Fuse.into(), sector));
-        }
-        if self.counter.blown {
-            return Err(blown_fault());
-        }
+        self.ready(sector)?;
         raised(self.inner.read(sector, buffer))
     }
 
     fn write(&mut self, sector: u32, content: &[u8; 512]) -> Result<(), Fault>
         ensures meets { Writes fuse_layer (fuse_meaning D.Device.meaning self.old) sector content.now result (fuse_meaning D.Device.meaning self.new) }
         ensures counts { Counts result self.old.counter self.new.counter }
-        ensures below { FuseWrites self.old.counter.blown D.Device.layer (D.Device.meaning self.old.inner) sector content.now result (D.Device.meaning self.new.inner) }
+        ensures below { FuseWrites self.old.counter D.Device.layer (D.Device.meaning self.old.inner) sector content.now result (D.Device.meaning self.new.inner) }
         ensures exact { FuseWrote D.Device.meaning D.Device.wrote self.old sector content.now result self.new }
     {
-        if sector >= self.size() {
-            return Err(Fault::out_of_range(Layer::Fuse.into(), sector));
-        }
-        if self.counter.blown {
-            return Err(blown_fault());
-        }
-        let answer = self.inner.write(sector, content);
-        self.count_accepted(answer)
+        self.ready(sector)?;
+        raised(self.inner.write(sector, content))?;
+        self.counter.count();
+        Ok(())
     }
 
     fn flush(&mut self) -> Result<(), Fault>
         ensures meets { Flushes (fuse_meaning D.Device.meaning self.old) result (fuse_meaning D.Device.meaning self.new) }
         ensures counts { Counts result self.old.counter self.new.counter }
-        ensures below { FuseFlushes self.old.counter.blown (D.Device.meaning self.old.inner) result (D.Device.meaning self.new.inner) }
+        ensures below { FuseFlushes self.old.counter (D.Device.meaning self.old.inner) result (D.Device.meaning self.new.inner) }
         ensures exact { FuseFlushed D.Device.flushed self.old result self.new }
     {
-        if self.counter.blown {
-            return Err(blown_fault());
-        }
-        let answer = self.inner.flush();
-        self.count_accepted(answer)
+        self.counter.power()?;
+        raised(self.inner.flush())?;
+        self.counter.count();
+        Ok(())
     }
 }
 
@@ -193,7 +167,7 @@ impl<D: CuttableDevice> CuttableDevice for Fuse<D> {
         ensures each { EachCut (fuse_meaning D.Device.meaning self.old ∷ under_fuse D.Device.meaning D.CuttableDevice.below self.old) (fuse_meaning D.Device.meaning self.new ∷ under_fuse D.Device.meaning D.CuttableDevice.below self.new) }
         ensures clears { self.new.counter ≡ unset }
     {
-        self.counter = Counter::new();
+        self.counter = Counter::default();
         self.inner.cut(plan);
     }
 }
