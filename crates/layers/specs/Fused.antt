@@ -15,15 +15,15 @@ use Rattle.layers.specs.declared.fuse.Fuse.{Fuse}
 abbrev pub fuse_layer : ℕ
 fuse_layer = layer_number FuseKind
 
--- a counter that never blows
+-- a counter that is not set: it never blows
 abbrev pub unset : Counter
 unset = record { remaining = None }
 
--- a counter is blown where none are left of the number that it was set to
+-- a counter is blown where it is set and none are left
 abbrev pub is_blown : Counter → Bool
 is_blown c = option_eq nat_eq c.remaining (Some 0)
 
--- a counter that is set, or unset by 0; a blown one stays as it is
+-- a counter that is set to n, or to no number where n is 0; a blown one stays as it is
 abbrev pub set_to : ℕ → Counter → Counter
 set_to n c = if is_blown c then c else record { remaining = then_some (nat_lt 0 n) n }
 

@@ -9,7 +9,7 @@ ghost use Rattle.layers.specs.WholeCuts.{under_fuse};
 use device::fault::{in_range, raised};
 use device::{CuttableDevice, Device, Fault, Layer};
 
-// How many accepted writes and flushes a fuse still takes: none are left where it is blown, and there is no number where it is not set.
+// How many accepted writes and flushes a fuse still takes: 0 where it is blown, and no number where it is not set.
 #[derive(Clone, Copy, Default)]
 struct Counter {
     remaining: Option<u32>,
@@ -34,7 +34,7 @@ impl Counter {
         }
     }
 
-    // Sets the number that is left, and none at 0; a blown counter stays as it is.
+    // Sets the number that is left, or no number at 0; a blown counter stays as it is.
     fn set(&mut self, remaining: u32)
         ensures { self.new ≡ set_to remaining self.old }
     {
@@ -97,6 +97,7 @@ impl<D: Device> Fuse<D> {
     }
 }
 
+// The clauses of the trait stand here again beside those of the fuse, since clauses that a method has of its own replace them.
 impl<D: Device> Device for Fuse<D> {
     ghost meaning = { fuse_meaning D.Device.meaning };
 
