@@ -84,6 +84,6 @@ pub newest_first : (x y : Sector) → sick_fault x ≡ None → newest x ≡ new
 newest_first (held o n) y e = refl
 newest_first (sick f) y e = let z : ◌≡◌ {A = ℕ} 0 1 = cc in absurd (omega arith)
 
-pub newest_second : (x y : Sector) (f : Fault) → x ≡ sick f → sick_fault y ≡ None → newest y ≡ newest (either x y)
-newest_second x (held o n) f e h = ap (λ (v : Sector). newest (either v (held o n))) (sym e)
-newest_second x (sick g) f e h = let z : ◌≡◌ {A = ℕ} 0 1 = cc in absurd (omega arith)
+pub newest_second : (x y : Sector) (f : Fault) → x ≡ sick f → newest y ≡ newest (either x y)
+newest_second x (held o n) f e = ap (λ (v : Sector). newest (either v (held o n))) (sym e)
+newest_second x (sick g) f e = ap (λ (v : Sector). newest (either v (sick g))) (sym e)

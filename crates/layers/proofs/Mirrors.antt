@@ -1,245 +1,456 @@
 -- From what a call did to each side to what it did to the mirror.
-use Rattle.std.proofs.Common.{◌≡◌, ℕ, ◌<◌, ◌⊎◌, List, None, Ok, Err, sym, refl, ap, ◌∙◌, subst, inl, inr, ⊎_elim, arith}
+use Rattle.std.proofs.Common.{◌≡◌, ℕ, ◌<◌, Bool, true, false, cond, nat_lt, ◌⊎◌, List, Some, None, Ok, Err, Option, ◌==◌, sym, refl, ap, ◌∙◌, subst, inl, inr, arith, eqb-true, ltb-true}
+use Rattle.std.specs.Prelude.{MatchBool}
+use Rattle.device.specs.declared.fault.Cause.{Cause}
+use Rattle.device.specs.declared.fault.Cause.TheVariants.{Sick, PowerLost}
 use Rattle.device.specs.declared.fault.Fault.{Fault}
-use Rattle.device.specs.Faults.{raised, raised_answer, Answer}
-use Rattle.device.specs.Meaning.{Sector, sick, Meaning, newest}
-use Rattle.device.specs.Calls.{ByAnswer, Reads, Writes, Flushes, Kept, Worn, Refused, Went, Accepted, answer_of, power_fault, sick_fault, standing, settled, written}
+use Rattle.device.specs.Faults.{cause_number, out_of_range, raised, raised_answer, Answer}
+use Rattle.device.specs.Meaning.{Sector, sick, held, Meaning, newest, Lawful, LawfulPower, LawfulSector}
+use Rattle.device.specs.Calls.{ByAnswer, ByFault, Reads, Writes, Flushes, Kept, Worn, Refused, Went, Accepted, answer_of, filled, power_fault, sick_fault, standing, settled, written}
 use Rattle.device.specs.Cuts.{Cut}
 use Rattle.device.proofs.Lists.{kept_refl, worn_refl, kept_worn, settled_kept}
-use Rattle.device.proofs.Steps.{standing_is, by_some, reads_went, writes_went, flushes_went}
-use Rattle.layers.specs.declared.mirror.Outcome.{Outcome}
-use Rattle.layers.specs.declared.mirror.Outcome.TheVariants.{Fine, Sick, PowerLost}
+use Rattle.device.proofs.Steps.{standing_is, by_none, by_some, flushes_went, flushed_went, split}
+use Rattle.layers.specs.declared.mirror.Mirror.{Mirror}
 use Rattle.layers.specs.Mirrored.{either, both_power, mirrored, mirror_layer}
-use Rattle.layers.specs.Sides.{joined, Ready, SideWrote, SideFlushed, SidesRead, EachWrote, EachFlushed}
+use Rattle.layers.specs.Sides.{failed_by, either_answer, joined, mirror_stands, EitherFetched, BothWrote, BothFlushed, EachWrote}
 use Rattle.layers.proofs.Eithers.{either_worn, either_kept, either_cut, either_settled, written_either, kept_sick, healthy_first, healthy_second, both_sick, newest_first, newest_second}
 
--- where either side's power is off, so is the mirror's
-both_off : (p q : Answer) (f : Fault) → (p ≡ Err f) ⊎ (q ≡ Err f) → (g : Fault) × (both_power p q ≡ Err g)
-both_off (Err g) q f e = (raised g, refl)
-both_off (Ok x) (Err g) f e = (raised g, refl)
-both_off (Ok x) (Ok y) f e = absurd (⊎_elim (on_off x f) (on_off y f) e)
-  where
-    on_off : (u : Unit {0}) (f : Fault) → ◌≡◌ {A = Answer} (Ok u) (Err f) → ⊥
-    on_off u f e = let z : ◌≡◌ {A = ℕ} 0 1 = cc in omega arith
+-- power
 
 both_on : (p q : Answer) → p ≡ Ok tt → q ≡ Ok tt → both_power p q ≡ Ok tt
 both_on p q e d = ap (λ (x : Answer). both_power x q) e ∙ ap raised_answer d
 
--- neither range nor power stands in the way of a mirror whose sides are ready
+both_were_on : (p q : Answer) → power_fault (both_power p q) ≡ None → (p ≡ Ok tt) × (q ≡ Ok tt)
+both_were_on (Ok x) (Ok y) e = (refl, refl)
+both_were_on (Ok x) (Err g) e = (refl, cc)
+both_were_on (Err f) q e = (cc, cc)
+
+-- where either side's power is off, so is the mirror's
+first_off : (p q : Answer) (f : Fault) → p ≡ Err f → both_power p q ≡ Err (raised f)
+first_off p q f e = ap (λ (x : Answer). both_power x q) e
+
+second_off : (p q : Answer) (f : Fault) → q ≡ Err f → (g : Fault) × (both_power p q ≡ Err g)
+second_off (Err g) q f e = (raised g, refl)
+second_off (Ok x) q f e = (raised f, ap raised_answer e)
+
+-- what stands in the way of the mirror and of its sides
+
+-- a side takes a call to sector s: the sector is in range, and power is on
+record Ready (m : Meaning) (s : ℕ) : Type 0 where
+  range : s < m.size
+  power : m.power ≡ Ok tt
+
+cond_none : (b : Bool) (o : Option Fault) (f : Fault) → cond b o (Some f) ≡ None → (b ≡ true) × (o ≡ None)
+cond_none true o f e = (refl, e)
+cond_none false o f e = (cc, cc)
+
+none_of : (o : Option Fault) → answer_of o ≡ Ok tt → o ≡ None
+none_of None e = refl
+none_of (Some f) e = cc
+
+-- where the mirror finds nothing in the way, both sides are ready
+both_ready : (a b : Meaning) (s : ℕ) → answer_of (mirror_stands (mirrored a b) s) ≡ Ok tt → Ready a s × Ready b s
+both_ready a b s e =
+    let c = cond_none (nat_lt s (mirrored a b).size) (power_fault (mirrored a b).power) (out_of_range mirror_layer s) (none_of (mirror_stands (mirrored a b) s) e) in
+    let on = both_were_on a.power b.power c.1 in
+    let i : s < (mirrored a b).size = ltb-true s (mirrored a b).size c.0 in
+    (record { range = omega arith; power = on.0 }, record { range = omega arith; power = on.1 })
+
+-- only sickness stands in the way of a side that is ready
+side_stands : (d s : ℕ) (m : Meaning) → Ready m s → standing d m s ≡ sick_fault (m.sector s)
+side_stands d s m h = standing_is d s m (sick_fault (m.sector s)) h.range h.power refl
+
 ready_stands : (a b : Meaning) (s : ℕ) → Ready a s → Ready b s → standing mirror_layer (mirrored a b) s ≡ sick_fault (either (a.sector s) (b.sector s))
 ready_stands a b s h k =
     let i : s < a.size = h.range in
     let j : s < b.size = k.range in
     standing_is mirror_layer s (mirrored a b) (sick_fault (either (a.sector s) (b.sector s))) (omega arith) (both_on a.power b.power h.power k.power) refl
 
--- the mirror loses power in a call: pa, pb and at have the sectors as the call would have left them
-mirror_failed : (a b a' b' : Meaning) (pa pb at : ℕ → Sector) (Done : Type 0) (f : Fault)
-    → a'.size ≡ a.size → b'.size ≡ b.size → both_power a'.power b'.power ≡ Err f
-    → ((t : ℕ) → Worn (pa t) (a'.sector t)) → ((t : ℕ) → Worn (pb t) (b'.sector t)) → ((t : ℕ) → at t ≡ either (pa t) (pb t))
-    → Went (mirrored a b) at Done (Err f) (mirrored a' b')
-mirror_failed a b a' b' pa pb at Done f ea eb p wa wb h = record {
-  size = omega arith;
-  so = record {
-    power = p;
-    each = λ t.
-        let P : Sector → Type 0 = λ v. Worn v (either (a'.sector t) (b'.sector t)) in
-        subst P (sym (h t)) (either_worn (pa t) (pb t) (a'.sector t) (b'.sector t) (wa t) (wb t));
-  };
+-- causes
+
+true_false : true ≡ false → ⊥
+true_false e = let z : ◌≡◌ {A = ℕ} 0 1 = cc in absurd (omega arith)
+
+-- where power went off in a call, the fault says so
+lost_says : (n : Meaning) (f : Fault) → Lawful n → n.power ≡ Err f → failed_by PowerLost (Err f) ≡ true
+lost_says n f h e = ap (λ (c : Cause). cause_number c == 3) (subst LawfulPower e h.power).0
+
+-- a sick sector's fault says so
+sick_says : (f : Fault) → f.cause ≡ Sick → (failed_by PowerLost (Err f) ≡ false) × (failed_by Sick (Err f) ≡ true)
+sick_says f e = (ap (λ (c : Cause). cause_number c == 3) e, ap (λ (c : Cause). cause_number c == 2) e)
+
+-- what a call did to one side: Done, or power went off in it and Lost
+record Side (Done Lost : Type 0) (m : Meaning) (at : ℕ → Sector) (p : Answer) (n : Meaning) : Type 0 where
+  size : n.size ≡ m.size
+  worn : (t : ℕ) → Worn (at t) (n.sector t)
+  how : ((failed_by PowerLost p ≡ false) × Done) ⊎ ((failed_by PowerLost p ≡ true) × (f : Fault) × (n.power ≡ Err f) × Lost)
+
+-- a side that was not sick
+went_side : {Done Lost Then : Type 0} (m n : Meaning) (at : ℕ → Sector) (p : Answer) → Lawful n
+    → (Done → (t : ℕ) → Worn (at t) (n.sector t)) → (p ≡ Ok tt → Done → Then) → (failed_by PowerLost p ≡ true → Lost)
+    → Went m at Done p n → Side Then Lost m at p n
+went_side m n at (Ok x) h wears does loses w = record { size = w.size; worn = wears w.so; how = inl (refl, does refl w.so) }
+went_side m n at (Err f) h wears does loses w =
+    let says = lost_says n f h w.so.power in
+    record { size = w.size; worn = w.so.each; how = inr (says, f, w.so.power, loses says) }
+
+-- a call that a side took in which power stayed, or that it refused since the sector is sick: it was accepted unless the sector is sick
+record Took (m : Meaning) (s : ℕ) (at : ℕ → Sector) (p : Answer) (n : Meaning) : Type 0 where
+  answers : sick_fault (m.sector s) ≡ None → p ≡ Ok tt
+  kept : Accepted at n
+
+accepted_worn : (at : ℕ → Sector) (n : Meaning) → Accepted at n → (t : ℕ) → Worn (at t) (n.sector t)
+accepted_worn at n h t = kept_worn (at t) (n.sector t) (h t)
+
+side_at : {Lost : Type 0} (m n : Meaning) (s : ℕ) (at : ℕ → Sector) (p : Answer) (x : Sector) → m.sector s ≡ x → LawfulSector x → Lawful n
+    → ((f : Fault) → m.sector s ≡ sick f → Accepted at m) → (failed_by PowerLost p ≡ true → Lost)
+    → ByFault (sick_fault x) (λ f. Refused f m p n) (Went m at (Accepted at n) p n)
+    → Side (Took m s at p n) Lost m at p n
+side_at m n s at p (sick f) e l k stays loses h =
+    let kept : Accepted at n = subst (Accepted at) (sym h.same) (stays f e) in
+    record {
+      size = ap (λ (v : Meaning). v.size) h.same;
+      worn = accepted_worn at n kept;
+      how = inl (ap (failed_by PowerLost) h.says ∙ (sick_says f l).0, record { answers = λ i. cc (ap sick_fault e); kept = kept });
+    }
+side_at m n s at p (held old new) e l k stays loses h =
+    went_side m n at p k (accepted_worn at n) (λ a t. record { answers = λ i. a; kept = t }) loses h
+
+-- a call to sector s that neither range nor power stood in the way of, and that is to leave the sectors `at`
+abbrev Called : Meaning → ℕ → (ℕ → Sector) → Answer → Meaning → Type 0
+Called m s at p n = ByFault (sick_fault (m.sector s)) (λ f. Refused f m p n) (Went m at (Accepted at n) p n)
+
+-- such a call to a side that was ready
+called : (d : ℕ) (m n : Meaning) (s : ℕ) (at : ℕ → Sector) (p : Answer) → Ready m s
+    → ByFault (standing d m s) (λ f. Refused f m p n) (Went m at (Accepted at n) p n) → Called m s at p n
+called d m n s at p ready c = subst (λ (o : Option Fault). ByFault o (λ f. Refused f m p n) (Went m at (Accepted at n) p n)) (side_stands d s m ready) c
+
+side : {Lost : Type 0} (m n : Meaning) (s : ℕ) (at : ℕ → Sector) (p : Answer) → LawfulSector (m.sector s) → Lawful n
+    → ((f : Fault) → m.sector s ≡ sick f → Accepted at m) → (failed_by PowerLost p ≡ true → Lost)
+    → Called m s at p n → Side (Took m s at p n) Lost m at p n
+side m n s at p l k stays loses c = side_at m n s at p (m.sector s) refl l k stays loses c
+
+-- the mirror's answer is that of the sides where power stayed on both, or else its power after the call
+joined_by : {A B Lost : Type 0} (P : Answer → Type 0) (a b a' b' : Meaning) (pa pb : ℕ → Sector) (p q : Answer)
+    → Side A Lost a pa p a' → Side B Lost b pb q b'
+    → (A → B → P (either_answer p q)) → ((g : Fault) → both_power a'.power b'.power ≡ Err g → Lost → P (Err g))
+    → P (joined p q (both_power a'.power b'.power))
+joined_by {A} {B} {Lost} P a b a' b' pa pb p q h k both lost = cases h.how k.how
+  where
+    power : Answer
+    power = both_power a'.power b'.power
+
+    either_is : Answer
+    either_is = either_answer p q
+
+    second_is : Bool → Answer
+    second_is v = cond v power either_is
+
+    first_is : Bool → Answer
+    first_is v = cond v power (second_is (failed_by PowerLost q))
+
+    cases : ((failed_by PowerLost p ≡ false) × A) ⊎ ((failed_by PowerLost p ≡ true) × (f : Fault) × (a'.power ≡ Err f) × Lost)
+        → ((failed_by PowerLost q ≡ false) × B) ⊎ ((failed_by PowerLost q ≡ true) × (f : Fault) × (b'.power ≡ Err f) × Lost)
+        → P (joined p q (both_power a'.power b'.power))
+    cases (inl x) (inl y) = subst P (sym (ap first_is x.0 ∙ ap second_is y.0)) (both x.1 y.1)
+    cases (inl x) (inr y) =
+        let o = second_off a'.power b'.power y.1 y.2 in
+        subst P (sym (ap first_is x.0 ∙ ap second_is y.0 ∙ o.1)) (lost o.0 o.1 y.3)
+    cases (inr x) y =
+        let o = first_off a'.power b'.power x.1 x.2 in
+        subst P (sym (ap first_is x.0 ∙ o)) (lost (raised x.1) o x.3)
+
+-- what the call means for the mirror, where it was refused on neither side, or on one alone
+joined_went : {A B Lost Done : Type 0} (a b a' b' : Meaning) (pa pb at : ℕ → Sector) (p q : Answer)
+    → Side A Lost a pa p a' → Side B Lost b pb q b' → ((t : ℕ) → at t ≡ either (pa t) (pb t))
+    → (A → B → (either_answer p q ≡ Ok tt) × Done)
+    → Went (mirrored a b) at Done (joined p q (both_power a'.power b'.power)) (mirrored a' b')
+joined_went {A} {B} {Lost} {Done} a b a' b' pa pb at p q h k splits both =
+    let ea = h.size in
+    let eb = k.size in
+    let small : (mirrored a' b').size ≡ (mirrored a b).size = omega arith in
+    joined_by (λ r. Went (mirrored a b) at Done r (mirrored a' b')) a b a' b' pa pb p q h k
+    (λ x y. subst (λ (r : Answer). Went (mirrored a b) at Done r (mirrored a' b')) (sym (both x y).0) (record { size = small; so = (both x y).1 }))
+    (λ g e l. record {
+      size = small;
+      so = record {
+        power = e;
+        each = λ t. subst (λ (v : Sector). Worn v (either (a'.sector t) (b'.sector t))) (sym (splits t))
+            (either_worn (pa t) (pb t) (a'.sector t) (b'.sector t) (h.worn t) (k.worn t));
+      };
+    })
+
+-- contents that both sides keep are kept by the mirror
+both_kept : (a' b' : Meaning) (pa pb at : ℕ → Sector) → ((t : ℕ) → at t ≡ either (pa t) (pb t)) → Accepted pa a' → Accepted pb b' → Accepted at (mirrored a' b')
+both_kept a' b' pa pb at splits h k t =
+    subst (λ (v : Sector). Kept v (either (a'.sector t) (b'.sector t))) (sym (splits t))
+    (either_kept (pa t) (pb t) (a'.sector t) (b'.sector t) (h t) (k t))
+
+first_answers : (p q : Answer) → p ≡ Ok tt → either_answer p q ≡ Ok tt
+first_answers p q e = ap (λ (r : Answer). either_answer r q) e
+
+second_answers : (p q : Answer) → q ≡ Ok tt → either_answer p q ≡ Ok tt
+second_answers (Ok x) q e = refl
+second_answers (Err f) q e = ap (either_answer (Err f)) e
+
+-- one of two sides that are not both sick accepted the call
+one_answers : (x y : Sector) (p q : Answer) → sick_fault (either x y) ≡ None → (sick_fault x ≡ None → p ≡ Ok tt) → (sick_fault y ≡ None → q ≡ Ok tt) → either_answer p q ≡ Ok tt
+one_answers (held o n) y p q e h k = first_answers p q (h refl)
+one_answers (sick f) (held o n) p q e h k = second_answers p q (k refl)
+one_answers (sick f) (sick g) p q e h k = cc
+
+-- the mirror's call, by those of sides that both were asked
+both_went : {Lost : Type 0} (s : ℕ) (a b a' b' : Meaning) (pa pb at : ℕ → Sector) (p q : Answer)
+    → Side (Took a s pa p a') Lost a pa p a' → Side (Took b s pb q b') Lost b pb q b' → ((t : ℕ) → at t ≡ either (pa t) (pb t))
+    → sick_fault (either (a.sector s) (b.sector s)) ≡ None
+    → Went (mirrored a b) at (Accepted at (mirrored a' b')) (joined p q (both_power a'.power b'.power)) (mirrored a' b')
+both_went s a b a' b' pa pb at p q h k splits healthy =
+    joined_went a b a' b' pa pb at p q h k splits
+    (λ x y. (one_answers (a.sector s) (b.sector s) p q healthy x.answers y.answers, both_kept a' b' pa pb at splits x.kept y.kept))
+
+-- such a call means the same for the mirror, whose range and power did not stand in the way either
+one_called : {Lost : Type 0} (s : ℕ) (a b a' b' : Meaning) (pa pb at : ℕ → Sector) (p q : Answer)
+    → Side (Took a s pa p a') Lost a pa p a' → Side (Took b s pb q b') Lost b pb q b' → ((t : ℕ) → at t ≡ either (pa t) (pb t))
+    → sick_fault (either (a.sector s) (b.sector s)) ≡ None
+    → Called (mirrored a b) s at (joined p q (both_power a'.power b'.power)) (mirrored a' b')
+one_called s a b a' b' pa pb at p q h k splits healthy =
+    let r = joined p q (both_power a'.power b'.power) in
+    by_none (λ f. Refused f (mirrored a b) r (mirrored a' b')) (Went (mirrored a b) at (Accepted at (mirrored a' b')) r (mirrored a' b'))
+    (sick_fault (either (a.sector s) (b.sector s))) healthy (both_went s a b a' b' pa pb at p q h k splits healthy)
+
+mirror_called : (m n : Meaning) (s : ℕ) (at : ℕ → Sector) (r : Answer) → standing mirror_layer m s ≡ sick_fault (m.sector s) → Called m s at r n
+    → ByFault (standing mirror_layer m s) (λ f. Refused f m r n) (Went m at (Accepted at n) r n)
+mirror_called m n s at r e c = subst (λ (o : Option Fault). ByFault o (λ f. Refused f m r n) (Went m at (Accepted at n) r n)) (sym e) c
+
+-- both sides of a mirror mean lawful devices, before and after a call
+abbrev pub LawfulSides : Mirror Meaning Meaning → Type 0
+LawfulSides m = Lawful m.first × Lawful m.second
+
+-- where power stayed on both sides, both keep what they are to keep
+took_both : {Lost P : Type 0} (s : ℕ) (a b a' b' : Meaning) (pa pb : ℕ → Sector) (p q : Answer)
+    → Side (Took a s pa p a') Lost a pa p a' → Side (Took b s pb q b') Lost b pb q b' → (Accepted pa a' → Accepted pb b' → P)
+    → ByAnswer (joined p q (both_power a'.power b'.power)) P (λ f. Unit {0})
+took_both {Lost} {P} s a b a' b' pa pb p q h k both =
+    joined_by (λ r. ByAnswer r P (λ f. Unit {0})) a b a' b' pa pb p q h k (λ x y. if_ok (either_answer p q) (both x.kept y.kept)) (λ g e l. tt)
+  where
+    if_ok : (r : Answer) → P → ByAnswer r P (λ f. Unit {0})
+    if_ok (Ok x) t = t
+    if_ok (Err f) t = tt
+
+-- a call that a sick side refused
+refused_by : (m n : Meaning) (s : ℕ) (at : ℕ → Sector) (p : Answer) (f : Fault) → m.sector s ≡ sick f → Called m s at p n → Refused f m p n
+refused_by m n s at p f e h = subst (λ (x : Sector). ByFault (sick_fault x) (λ f. Refused f m p n) (Went m at (Accepted at n) p n)) e h
+
+-- where both sides are sick the mirror refuses the call with the first side's fault
+both_refused : (a b a' b' : Meaning) (p q power : Answer) (f g : Fault) → f.cause ≡ Sick → g.cause ≡ Sick → Refused f a p a' → Refused g b q b'
+    → Refused (raised f) (mirrored a b) (joined p q power) (mirrored a' b')
+both_refused a b a' b' p q power f g c d h k = record {
+  says =
+      ap (λ (r : Answer). joined r q power) h.says ∙ ap (λ (r : Answer). joined (Err f) r power) k.says
+      ∙ ap (λ (v : Bool). cond v power (cond (failed_by PowerLost (Err g)) power (Err (raised f)))) (sick_says f c).0
+      ∙ ap (λ (v : Bool). cond v power (Err (raised f))) (sick_says g d).0;
+  same = ap (λ (x : Meaning). mirrored x b') h.same ∙ ap (mirrored a) k.same;
 }
 
--- the answer is then the mirror's fault
-mirror_lost : (a b a' b' : Meaning) (pa pb at : ℕ → Sector) (Done : Type 0) (f : Fault)
-    → a'.size ≡ a.size → b'.size ≡ b.size → (a'.power ≡ Err f) ⊎ (b'.power ≡ Err f)
-    → ((t : ℕ) → Worn (pa t) (a'.sector t)) → ((t : ℕ) → Worn (pb t) (b'.sector t)) → ((t : ℕ) → at t ≡ either (pa t) (pb t))
-    → Went (mirrored a b) at Done (answer_of (power_fault (both_power a'.power b'.power))) (mirrored a' b')
-mirror_lost a b a' b' pa pb at Done f ea eb off wa wb h =
-    let o = both_off a'.power b'.power f off in
-    let P : Answer → Type 0 = λ p. Went (mirrored a b) at Done (answer_of (power_fault p)) (mirrored a' b') in
-    subst P (sym o.1) (mirror_failed a b a' b' pa pb at Done o.0 ea eb o.1 wa wb h)
-
-mirror_accepted : (a b a' b' : Meaning) (pa pb at : ℕ → Sector)
-    → a'.size ≡ a.size → b'.size ≡ b.size
-    → ((t : ℕ) → Kept (pa t) (a'.sector t)) → ((t : ℕ) → Kept (pb t) (b'.sector t)) → ((t : ℕ) → at t ≡ either (pa t) (pb t))
-    → Went (mirrored a b) at (Accepted at (mirrored a' b')) (Ok tt) (mirrored a' b')
-mirror_accepted a b a' b' pa pb at ea eb wa wb h = record {
-  size = omega arith;
-  so = λ t.
-      let P : Sector → Type 0 = λ v. Kept v (either (a'.sector t) (b'.sector t)) in
-      subst P (sym (h t)) (either_kept (pa t) (pb t) (a'.sector t) (b'.sector t) (wa t) (wb t));
-}
-
--- where power is lost nothing is said of an accepted call
-lost_says : (P : Type 0) (p q : Answer) (f : Fault) → (p ≡ Err f) ⊎ (q ≡ Err f) → ByAnswer (answer_of (power_fault (both_power p q))) P (λ g. Unit {0})
-lost_says P p q f off =
-    let o = both_off p q f off in
-    subst (λ (x : Answer). ByAnswer (answer_of (power_fault x)) P (λ g. Unit {0})) (sym o.1) tt
+-- a call that both sides were asked
+both_called : {Lost : Type 0} (s : ℕ) (a b a' b' : Meaning) (pa pb at : ℕ → Sector) (p q : Answer) (x y : Sector)
+    → a.sector s ≡ x → b.sector s ≡ y → LawfulSector x → LawfulSector y
+    → Side (Took a s pa p a') Lost a pa p a' → Side (Took b s pb q b') Lost b pb q b' → ((t : ℕ) → at t ≡ either (pa t) (pb t))
+    → Called a s pa p a' → Called b s pb q b' → Called (mirrored a b) s at (joined p q (both_power a'.power b'.power)) (mirrored a' b')
+both_called s a b a' b' pa pb at p q (sick f) (sick g) ex ey lx ly h k splits ca cb =
+    let r = joined p q (both_power a'.power b'.power) in
+    by_some (λ e. Refused e (mirrored a b) r (mirrored a' b')) (Went (mirrored a b) at (Accepted at (mirrored a' b')) r (mirrored a' b'))
+    (sick_fault (either (a.sector s) (b.sector s))) (raised f) (both_sick (a.sector s) (b.sector s) f g ex ey)
+    (both_refused a b a' b' p q (both_power a'.power b'.power) f g lx ly (refused_by a a' s pa p f ex ca) (refused_by b b' s pb q g ey cb))
+both_called s a b a' b' pa pb at p q (held o n) y ex ey lx ly h k splits ca cb =
+    one_called s a b a' b' pa pb at p q h k splits (healthy_first (a.sector s) (b.sector s) (ap sick_fault ex))
+both_called s a b a' b' pa pb at p q (sick f) (held o n) ex ey lx ly h k splits ca cb =
+    one_called s a b a' b' pa pb at p q h k splits (healthy_second (a.sector s) (b.sector s) (ap sick_fault ey))
 
 -- read
 
-same_kept : (m n : Meaning) → n ≡ m → Accepted m.sector n
-same_kept m n e t = let P : Meaning → Type 0 = λ x. Kept (m.sector t) (x.sector t) in subst P (sym e) (kept_refl (m.sector t))
+-- a read's buffer holds what its answer says, whether it was refused or not
+read_filled : (o : Option Fault) (m n : Meaning) (went : Type 0) (new buffer buffer' : List ℕ) (p : Answer)
+    → ByFault o (λ f. Refused f m p n × (buffer' ≡ buffer)) (went × (buffer' ≡ filled p new buffer))
+    → ByFault o (λ f. Refused f m p n) went × (buffer' ≡ filled p new buffer)
+read_filled (Some f) m n went new buffer buffer' p h = (h.0, h.1 ∙ ap (λ (r : Answer). filled r new buffer) (sym h.0.says))
+read_filled None m n went new buffer buffer' p h = h
 
-same_worn : (m n : Meaning) → n ≡ m → (t : ℕ) → Worn (m.sector t) (n.sector t)
-same_worn m n e t = let P : Meaning → Type 0 = λ x. Worn (m.sector t) (x.sector t) in subst P (sym e) (worn_refl (m.sector t))
+filled_read : (o : Option Fault) (m n : Meaning) (went : Type 0) (new buffer buffer' : List ℕ) (p : Answer)
+    → ByFault o (λ f. Refused f m p n) went → buffer' ≡ filled p new buffer
+    → ByFault o (λ f. Refused f m p n × (buffer' ≡ buffer)) (went × (buffer' ≡ filled p new buffer))
+filled_read (Some f) m n went new buffer buffer' p h e = (h, e ∙ ap (λ (r : Answer). filled r new buffer) h.says)
+filled_read None m n went new buffer buffer' p h e = (h, e)
 
-same_size : (m n : Meaning) → n ≡ m → n.size ≡ m.size
-same_size m n e = ap (λ (x : Meaning). x.size) e
+-- a read in which power went off leaves the buffer as it was
+lost_filled : (p : Answer) (new buffer buffer' : List ℕ) → buffer' ≡ filled p new buffer → failed_by PowerLost p ≡ true → buffer' ≡ buffer
+lost_filled (Ok x) new buffer buffer' h e = cc
+lost_filled (Err f) new buffer buffer' h e = h
 
-read_accepted : (a b a' b' : Meaning) (s : ℕ) (buffer buffer' : List ℕ) → Ready a s → Ready b s
-    → sick_fault (either (a.sector s) (b.sector s)) ≡ None → a'.size ≡ a.size → b'.size ≡ b.size
-    → Accepted a.sector a' → Accepted b.sector b' → buffer' ≡ newest (either (a.sector s) (b.sector s))
-    → Reads mirror_layer (mirrored a b) s buffer (Ok tt) (mirrored a' b') buffer'
-read_accepted a b a' b' s buffer buffer' ra rb healthy ea eb h k e =
-    reads_went mirror_layer s (mirrored a b) (mirrored a' b') buffer buffer' (Ok tt) (ready_stands a b s ra rb ∙ healthy)
-    (mirror_accepted a b a' b' a.sector b.sector (mirrored a b).sector ea eb h k (λ t. refl)) e
+-- where the first side is sick, the second's answer fills the buffer
+second_filled : (f : Fault) (q : Answer) (new buffer : List ℕ) → filled q new buffer ≡ filled (either_answer (Err f) q) new buffer
+second_filled f (Ok x) new buffer = refl
+second_filled f (Err g) new buffer = refl
 
-read_lost : (a b a' b' : Meaning) (s : ℕ) (buffer buffer' : List ℕ) (f : Fault) → Ready a s → Ready b s
-    → sick_fault (either (a.sector s) (b.sector s)) ≡ None → (a'.power ≡ Err f) ⊎ (b'.power ≡ Err f) → a'.size ≡ a.size → b'.size ≡ b.size
-    → ((t : ℕ) → Worn (a.sector t) (a'.sector t)) → ((t : ℕ) → Worn (b.sector t) (b'.sector t)) → buffer' ≡ buffer
-    → Reads mirror_layer (mirrored a b) s buffer (answer_of (power_fault (both_power a'.power b'.power))) (mirrored a' b') buffer'
-read_lost a b a' b' s buffer buffer' f ra rb healthy off ea eb h k e =
-    let o = both_off a'.power b'.power f off in
-    let P : Answer → Type 0 = λ p. Reads mirror_layer (mirrored a b) s buffer (answer_of (power_fault p)) (mirrored a' b') buffer' in
-    subst P (sym o.1)
-    (reads_went mirror_layer s (mirrored a b) (mirrored a' b') buffer buffer' (Err o.0) (ready_stands a b s ra rb ∙ healthy)
-    (mirror_failed a b a' b' a.sector b.sector (mirrored a b).sector (Accepted (mirrored a b).sector (mirrored a' b')) o.0 ea eb o.1 h k (λ t. refl)) e)
+one_cause : (p : Answer) → failed_by Sick p ≡ true → failed_by PowerLost p ≡ false
+one_cause (Ok x) e = refl
+one_cause (Err f) e = ap (λ (c : ℕ). c == 3) (eqb-true (cause_number f.cause) 2 e)
 
-read_sick : (a b a' b' : Meaning) (s : ℕ) (buffer buffer' : List ℕ) (f g : Fault) → Ready a s → Ready b s
-    → a.sector s ≡ sick f → b.sector s ≡ sick g → a' ≡ a → b' ≡ b → buffer' ≡ buffer
-    → Reads mirror_layer (mirrored a b) s buffer (Err (raised f)) (mirrored a' b') buffer'
-read_sick a b a' b' s buffer buffer' f g ra rb h k ea eb e =
-    by_some (λ x. Refused x (mirrored a b) (Err (raised f)) (mirrored a' b') × (buffer' ≡ buffer))
-    (Went (mirrored a b) (mirrored a b).sector (Accepted (mirrored a b).sector (mirrored a' b')) (Err (raised f)) (mirrored a' b') × (buffer' ≡ buffer))
-    (standing mirror_layer (mirrored a b) s) (raised f) (ready_stands a b s ra rb ∙ both_sick (a.sector s) (b.sector s) f g h k)
-    (record { says = refl; same = ap (λ (x : Meaning). mirrored x b') ea ∙ ap (mirrored a) eb }, e)
+-- a side that answers that it is sick is sick
+is_sick : (m n : Meaning) (s : ℕ) (at : ℕ → Sector) (p : Answer) (x : Sector) → m.sector s ≡ x → Lawful n → failed_by Sick p ≡ true
+    → ByFault (sick_fault x) (λ f. Refused f m p n) (Went m at (Accepted at n) p n) → (f : Fault) × (m.sector s ≡ sick f) × (p ≡ Err f)
+is_sick m n s at p (sick f) e k v c = (f, e, c.says)
+is_sick m n s at (Ok x) (held o w) e k v c = absurd (true_false (sym v))
+is_sick m n s at (Err f) (held o w) e k v c = absurd (true_false (sym (lost_says n f k c.so.power) ∙ one_cause (Err f) v))
 
-pub read_joined : (a b a' b' : Meaning) (s : ℕ) (buffer buffer' : List ℕ) (o p : Outcome) → Ready a s → Ready b s → SidesRead s buffer buffer' o p a b a' b'
-    → Reads mirror_layer (mirrored a b) s buffer (joined o p (both_power a'.power b'.power)) (mirrored a' b') buffer'
-read_joined a b a' b' s buffer buffer' Fine p ra rb h =
-    let P : Outcome → Type 0 = λ q. Reads mirror_layer (mirrored a b) s buffer (joined Fine q (both_power a'.power b'.power)) (mirrored a' b') buffer' in
-    subst P (sym h.1)
-    (read_accepted a b a' b' s buffer buffer' ra rb (healthy_first (a.sector s) (b.sector s) h.0.so.0) h.0.size (same_size b b' h.2)
-    h.0.so.1 (same_kept b b' h.2) (h.0.so.2 ∙ newest_first (a.sector s) (b.sector s) h.0.so.0))
-read_joined a b a' b' s buffer buffer' (Sick f) Fine ra rb h =
-    read_accepted a b a' b' s buffer buffer' ra rb (healthy_second (a.sector s) (b.sector s) h.2.so.0) (same_size a a' h.1) h.2.size
-    (same_kept a a' h.1) h.2.so.1 (h.2.so.2 ∙ newest_second (a.sector s) (b.sector s) f h.0 h.2.so.0)
-read_joined a b a' b' s buffer buffer' (Sick f) (Sick g) ra rb h =
-    read_sick a b a' b' s buffer buffer' f g ra rb h.0 h.2.so.0 h.1 h.2.so.1 h.2.so.2
-read_joined a b a' b' s buffer buffer' (Sick f) (PowerLost g) ra rb h =
-    read_lost a b a' b' s buffer buffer' g ra rb (healthy_second (a.sector s) (b.sector s) h.2.so.0) (inr h.2.so.1.power)
-    (same_size a a' h.1) h.2.size (same_worn a a' h.1) h.2.so.1.each h.2.so.2
-read_joined a b a' b' s buffer buffer' (PowerLost f) p ra rb h =
-    read_lost a b a' b' s buffer buffer' f ra rb (healthy_first (a.sector s) (b.sector s) h.0.so.0) (inl h.0.so.1.power)
-    h.0.size (same_size b b' h.2) h.0.so.1.each (same_worn b b' h.2) h.0.so.2
+-- and one that does not is not
+is_well : (m n : Meaning) (s : ℕ) (at : ℕ → Sector) (p : Answer) (x : Sector) → LawfulSector x → failed_by Sick p ≡ false
+    → ByFault (sick_fault x) (λ f. Refused f m p n) (Went m at (Accepted at n) p n) → sick_fault x ≡ None
+is_well m n s at p (sick f) l v c = absurd (true_false (sym (sick_says f l).1 ∙ ap (failed_by Sick) (sym c.says) ∙ v))
+is_well m n s at p (held o w) l v c = refl
+
+-- a side that was not asked
+same_side : {Lost : Type 0} (m n : Meaning) (s : ℕ) (q : Answer) → q ≡ Ok tt → n ≡ m → Side (Took m s m.sector q n) Lost m m.sector q n
+same_side m n s q e same = record {
+  size = ap (λ (v : Meaning). v.size) same;
+  worn = λ t. subst (λ (v : Meaning). Worn (m.sector t) (v.sector t)) (sym same) (worn_refl (m.sector t));
+  how = inl (
+    ap (failed_by PowerLost) e,
+    record {
+      answers = λ i. e;
+      kept = λ t. subst (λ (v : Meaning). Kept (m.sector t) (v.sector t)) (sym same) (kept_refl (m.sector t));
+    },
+  );
+}
+
+read_side : {Lost : Type 0} (m n : Meaning) (s : ℕ) (p : Answer) → LawfulSector (m.sector s) → Lawful n → (failed_by PowerLost p ≡ true → Lost)
+    → Called m s m.sector p n → Side (Took m s m.sector p n) Lost m m.sector p n
+read_side m n s p l k loses c = side m n s m.sector p l k (λ f e t. kept_refl (m.sector t)) loses c
+
+-- a read of a mirror whose first side answers that it is sick
+read_second : (d e s : ℕ) (a b a' b' : Meaning) (buffer buffer' : List ℕ) (p q : Answer) → Ready a s → Ready b s
+    → Lawful a → Lawful b → Lawful a' → Lawful b' → failed_by Sick p ≡ true
+    → Reads d a s buffer p a' buffer → Reads e b s buffer q b' buffer'
+    → Reads mirror_layer (mirrored a b) s buffer (joined p q (both_power a'.power b'.power)) (mirrored a' b') buffer'
+read_second d e s a b a' b' buffer buffer' p q ra rb la lb ka kb v da db =
+    let fa = read_filled (standing d a s) a a' (Went a a.sector (Accepted a.sector a') p a') (newest (a.sector s)) buffer buffer p da in
+    let fb = read_filled (standing e b s) b b' (Went b b.sector (Accepted b.sector b') q b') (newest (b.sector s)) buffer buffer' q db in
+    let ca = called d a a' s a.sector p ra fa.0 in
+    let cb = called e b b' s b.sector q rb fb.0 in
+    let sa : Side (Took a s a.sector p a') (buffer' ≡ buffer) a a.sector p a' =
+    read_side a a' s p (la.each s ra.range) ka (λ w. absurd (true_false (sym w ∙ one_cause p v))) ca in
+    let sb : Side (Took b s b.sector q b') (buffer' ≡ buffer) b b.sector q b' =
+    read_side b b' s q (lb.each s rb.range) kb (lost_filled q (newest (b.sector s)) buffer buffer' fb.1) cb in
+    let ill = is_sick a a' s a.sector p (a.sector s) refl ka v ca in
+    let new = newest (either (a.sector s) (b.sector s)) in
+    let r = joined p q (both_power a'.power b'.power) in
+    filled_read (standing mirror_layer (mirrored a b) s) (mirrored a b) (mirrored a' b')
+    (Went (mirrored a b) (mirrored a b).sector (Accepted (mirrored a b).sector (mirrored a' b')) r (mirrored a' b')) new buffer buffer' r
+    (mirror_called (mirrored a b) (mirrored a' b') s (mirrored a b).sector r (ready_stands a b s ra rb)
+    (both_called s a b a' b' a.sector b.sector (mirrored a b).sector p q (a.sector s) (b.sector s) refl refl (la.each s ra.range) (lb.each s rb.range) sa sb (λ t. refl) ca cb))
+    (joined_by (λ z. buffer' ≡ filled z new buffer) a b a' b' a.sector b.sector p q sa sb
+    (λ x y. fb.1 ∙ ap (λ (z : List ℕ). filled q z buffer) (newest_second (a.sector s) (b.sector s) ill.0 ill.1) ∙ second_filled ill.0 q new buffer
+    ∙ ap (λ (z : Answer). filled (either_answer z q) new buffer) (sym ill.2))
+    (λ g z l. l))
+
+-- a read of a mirror whose first side does not
+read_first : (d s : ℕ) (a b a' b' : Meaning) (buffer buffer' : List ℕ) (p q : Answer) → Ready a s → Ready b s
+    → Lawful a → Lawful a' → failed_by Sick p ≡ false
+    → Reads d a s buffer p a' buffer' → q ≡ Ok tt → b' ≡ b
+    → Reads mirror_layer (mirrored a b) s buffer (joined p q (both_power a'.power b'.power)) (mirrored a' b') buffer'
+read_first d s a b a' b' buffer buffer' p q ra rb la ka v da e same =
+    let fa = read_filled (standing d a s) a a' (Went a a.sector (Accepted a.sector a') p a') (newest (a.sector s)) buffer buffer' p da in
+    let ca = called d a a' s a.sector p ra fa.0 in
+    let sa : Side (Took a s a.sector p a') (buffer' ≡ buffer) a a.sector p a' =
+    read_side a a' s p (la.each s ra.range) ka (lost_filled p (newest (a.sector s)) buffer buffer' fa.1) ca in
+    let sb : Side (Took b s b.sector q b') (buffer' ≡ buffer) b b.sector q b' = same_side b b' s q e same in
+    let well = is_well a a' s a.sector p (a.sector s) (la.each s ra.range) v ca in
+    let new = newest (either (a.sector s) (b.sector s)) in
+    let r = joined p q (both_power a'.power b'.power) in
+    filled_read (standing mirror_layer (mirrored a b) s) (mirrored a b) (mirrored a' b')
+    (Went (mirrored a b) (mirrored a b).sector (Accepted (mirrored a b).sector (mirrored a' b')) r (mirrored a' b')) new buffer buffer' r
+    (mirror_called (mirrored a b) (mirrored a' b') s (mirrored a b).sector r (ready_stands a b s ra rb)
+    (one_called s a b a' b' a.sector b.sector (mirrored a b).sector p q sa sb (λ t. refl) (healthy_first (a.sector s) (b.sector s) well)))
+    (joined_by (λ z. buffer' ≡ filled z new buffer) a b a' b' a.sector b.sector p q sa sb
+    (λ x y. fa.1 ∙ ap (λ (z : Answer). filled z (newest (a.sector s)) buffer) (x.answers well) ∙ newest_first (a.sector s) (b.sector s) well
+    ∙ ap (λ (z : Answer). filled z new buffer) (sym (first_answers p q (x.answers well))))
+    (λ g z l. l))
+
+-- a read of the mirror, by those of its sides
+pub read_joined : (d e : ℕ) (m n : Mirror Meaning Meaning) (s : ℕ) (buffer : List ℕ) (r : Answer) (buffer' : List ℕ) → LawfulSides m → LawfulSides n
+    → answer_of (mirror_stands (mirrored m.first m.second) s) ≡ Ok tt → EitherFetched (λ a. a) (λ b. b) (Reads d) (Reads e) m s buffer r n buffer'
+    → Reads mirror_layer (mirrored m.first m.second) s buffer r (mirrored n.first n.second) buffer'
+read_joined d e m n s buffer r buffer' h k on did =
+    let ready = both_ready m.first m.second s on in
+    subst (λ (v : Answer). Reads mirror_layer (mirrored m.first m.second) s buffer v (mirrored n.first n.second) buffer') (sym did.3)
+    (split (failed_by Sick did.0)
+    (λ v.
+    let both = subst (λ (b : Bool). Asked b) v did.2 in
+    read_second d e s m.first m.second n.first n.second buffer buffer' did.0 did.1 ready.0 ready.1 h.0 h.1 k.0 k.1 v both.0 both.1)
+    (λ v.
+    let one = subst (λ (b : Bool). Asked b) v did.2 in
+    read_first d s m.first m.second n.first n.second buffer buffer' did.0 did.1 ready.0 ready.1 h.0 k.0 v one.0 one.1 one.2))
+  where
+    Asked : Bool → Type 0
+    Asked b =
+        MatchBool b (Reads d m.first s buffer did.0 n.first buffer × Reads e m.second s buffer did.1 n.second buffer')
+        (Reads d m.first s buffer did.0 n.first buffer' × (did.1 ≡ Ok tt) × (n.second ≡ m.second))
 
 -- write
 
-wrote_kept_sick : (m n : Meaning) (s : ℕ) (w : List ℕ) (f : Fault) → SideWrote m s w (Sick f) n → Accepted (written s w m.sector) n
-wrote_kept_sick m n s w f h t =
-    let P : Meaning → Type 0 = λ x. Kept (written s w m.sector t) (x.sector t) in
-    subst P (sym h.so.1) (kept_sick s w m f h.so.0 t)
+wrote_side : (s : ℕ) (m n : Meaning) (w : List ℕ) (p : Answer) → LawfulSector (m.sector s) → Lawful n → Called m s (written s w m.sector) p n
+    → Side (Took m s (written s w m.sector) p n) (Unit {0}) m (written s w m.sector) p n
+wrote_side s m n w p l k c = side m n s (written s w m.sector) p l k (kept_sick s w m) (λ e. tt) c
 
-wrote_worn : (m n : Meaning) (s : ℕ) (w : List ℕ) (o : Outcome) → SideWrote m s w o n → (t : ℕ) → Worn (written s w m.sector t) (n.sector t)
-wrote_worn m n s w Fine h t = kept_worn (written s w m.sector t) (n.sector t) (h.so.1 t)
-wrote_worn m n s w (Sick f) h t = kept_worn (written s w m.sector t) (n.sector t) (wrote_kept_sick m n s w f h t)
-wrote_worn m n s w (PowerLost f) h t = h.so.1.each t
-
-write_accepted : (a b a' b' : Meaning) (s : ℕ) (w : List ℕ) → Ready a s → Ready b s
-    → sick_fault (either (a.sector s) (b.sector s)) ≡ None → a'.size ≡ a.size → b'.size ≡ b.size
-    → Accepted (written s w a.sector) a' → Accepted (written s w b.sector) b'
-    → Writes mirror_layer (mirrored a b) s w (Ok tt) (mirrored a' b')
-write_accepted a b a' b' s w ra rb healthy ea eb h k =
-    writes_went mirror_layer s (mirrored a b) (mirrored a' b') w (Ok tt) (ready_stands a b s ra rb ∙ healthy)
-    (mirror_accepted a b a' b' (written s w a.sector) (written s w b.sector) (written s w (mirrored a b).sector) ea eb h k (written_either s w a b))
-
-write_lost : (a b a' b' : Meaning) (s : ℕ) (w : List ℕ) (o p : Outcome) (f : Fault) → Ready a s → Ready b s
-    → sick_fault (either (a.sector s) (b.sector s)) ≡ None → (a'.power ≡ Err f) ⊎ (b'.power ≡ Err f) → SideWrote a s w o a' → SideWrote b s w p b'
-    → Writes mirror_layer (mirrored a b) s w (answer_of (power_fault (both_power a'.power b'.power))) (mirrored a' b')
-write_lost a b a' b' s w o p f ra rb healthy off h k =
-    writes_went mirror_layer s (mirrored a b) (mirrored a' b') w (answer_of (power_fault (both_power a'.power b'.power))) (ready_stands a b s ra rb ∙ healthy)
-    (mirror_lost a b a' b' (written s w a.sector) (written s w b.sector) (written s w (mirrored a b).sector) (Accepted (written s w (mirrored a b).sector) (mirrored a' b')) f
-    h.size k.size off (wrote_worn a a' s w o h) (wrote_worn b b' s w p k) (written_either s w a b))
-
-write_sick : (a b a' b' : Meaning) (s : ℕ) (w : List ℕ) (f g : Fault) → Ready a s → Ready b s → SideWrote a s w (Sick f) a' → SideWrote b s w (Sick g) b'
-    → Writes mirror_layer (mirrored a b) s w (Err (raised f)) (mirrored a' b')
-write_sick a b a' b' s w f g ra rb h k =
-    by_some (λ x. Refused x (mirrored a b) (Err (raised f)) (mirrored a' b'))
-    (Went (mirrored a b) (written s w (mirrored a b).sector) (Accepted (written s w (mirrored a b).sector) (mirrored a' b')) (Err (raised f)) (mirrored a' b'))
-    (standing mirror_layer (mirrored a b) s) (raised f) (ready_stands a b s ra rb ∙ both_sick (a.sector s) (b.sector s) f g h.so.0 k.so.0)
-    (record { says = refl; same = ap (λ (x : Meaning). mirrored x b') h.so.1 ∙ ap (mirrored a) k.so.1 })
-
-pub write_joined : (a b a' b' : Meaning) (s : ℕ) (w : List ℕ) (o p : Outcome) → Ready a s → Ready b s → SideWrote a s w o a' → SideWrote b s w p b'
-    → Writes mirror_layer (mirrored a b) s w (joined o p (both_power a'.power b'.power)) (mirrored a' b')
-write_joined a b a' b' s w Fine Fine ra rb h k =
-    write_accepted a b a' b' s w ra rb (healthy_first (a.sector s) (b.sector s) h.so.0) h.size k.size h.so.1 k.so.1
-write_joined a b a' b' s w Fine (Sick g) ra rb h k =
-    write_accepted a b a' b' s w ra rb (healthy_first (a.sector s) (b.sector s) h.so.0) h.size k.size h.so.1 (wrote_kept_sick b b' s w g k)
-write_joined a b a' b' s w Fine (PowerLost g) ra rb h k =
-    write_lost a b a' b' s w Fine (PowerLost g) g ra rb (healthy_first (a.sector s) (b.sector s) h.so.0) (inr k.so.1.power) h k
-write_joined a b a' b' s w (Sick f) Fine ra rb h k =
-    write_accepted a b a' b' s w ra rb (healthy_second (a.sector s) (b.sector s) k.so.0) h.size k.size (wrote_kept_sick a a' s w f h) k.so.1
-write_joined a b a' b' s w (Sick f) (Sick g) ra rb h k = write_sick a b a' b' s w f g ra rb h k
-write_joined a b a' b' s w (Sick f) (PowerLost g) ra rb h k =
-    write_lost a b a' b' s w (Sick f) (PowerLost g) g ra rb (healthy_second (a.sector s) (b.sector s) k.so.0) (inr k.so.1.power) h k
-write_joined a b a' b' s w (PowerLost f) p ra rb h k =
-    write_lost a b a' b' s w (PowerLost f) p f ra rb (healthy_first (a.sector s) (b.sector s) h.so.0) (inl h.so.1.power) h k
-
-pub write_lists : (a b a' b' : Meaning) (s : ℕ) (w : List ℕ) (o p : Outcome) → SideWrote a s w o a' → SideWrote b s w p b'
-    → EachWrote s w (joined o p (both_power a'.power b'.power)) a b a' b'
-write_lists a b a' b' s w Fine Fine h k = (h.so.1, k.so.1)
-write_lists a b a' b' s w Fine (Sick g) h k = (h.so.1, wrote_kept_sick b b' s w g k)
-write_lists a b a' b' s w Fine (PowerLost g) h k =
-    lost_says (Accepted (written s w a.sector) a' × Accepted (written s w b.sector) b') a'.power b'.power g (inr k.so.1.power)
-write_lists a b a' b' s w (Sick f) Fine h k = (wrote_kept_sick a a' s w f h, k.so.1)
-write_lists a b a' b' s w (Sick f) (Sick g) h k = tt
-write_lists a b a' b' s w (Sick f) (PowerLost g) h k =
-    lost_says (Accepted (written s w a.sector) a' × Accepted (written s w b.sector) b') a'.power b'.power g (inr k.so.1.power)
-write_lists a b a' b' s w (PowerLost f) p h k =
-    lost_says (Accepted (written s w a.sector) a' × Accepted (written s w b.sector) b') a'.power b'.power f (inl h.so.1.power)
+-- a write to the mirror, by those to its sides
+pub write_joined : (d e : ℕ) (m n : Mirror Meaning Meaning) (s : ℕ) (w : List ℕ) (r : Answer) → LawfulSides m → LawfulSides n
+    → answer_of (mirror_stands (mirrored m.first m.second) s) ≡ Ok tt → BothWrote (λ a. a) (λ b. b) (Writes d) (Writes e) m s w r n
+    → Writes mirror_layer (mirrored m.first m.second) s w r (mirrored n.first n.second) × EachWrote m s w r n
+write_joined d e m n s w r h k on did =
+    let a = m.first in
+    let b = m.second in
+    let a' = n.first in
+    let b' = n.second in
+    let pa = written s w a.sector in
+    let pb = written s w b.sector in
+    let ready = both_ready a b s on in
+    let la = h.0.each s ready.0.range in
+    let lb = h.1.each s ready.1.range in
+    let ca = called d a a' s pa did.0 ready.0 did.2.0 in
+    let cb = called e b b' s pb did.1 ready.1 did.2.1 in
+    let sa = wrote_side s a a' w did.0 la k.0 ca in
+    let sb = wrote_side s b b' w did.1 lb k.1 cb in
+    subst (λ (v : Answer). Writes mirror_layer (mirrored a b) s w v (mirrored a' b') × EachWrote m s w v n) (sym did.3) (
+      mirror_called (mirrored a b) (mirrored a' b') s (written s w (mirrored a b).sector) (joined did.0 did.1 (both_power a'.power b'.power)) (ready_stands a b s ready.0 ready.1)
+          (both_called s a b a' b' pa pb (written s w (mirrored a b).sector) did.0 did.1 (a.sector s) (b.sector s) refl refl la lb sa sb (written_either s w a b) ca cb),
+      took_both s a b a' b' pa pb did.0 did.1 sa sb (λ x y. (x, y)),
+    )
 
 -- flush
 
-flushed_worn : (m n : Meaning) (o : Outcome) → SideFlushed m o n → (t : ℕ) → Worn (m.sector t) (n.sector t)
-flushed_worn m n Fine h t = kept_worn (m.sector t) (n.sector t) (settled_kept (m.sector t) (n.sector t) (h.so t))
-flushed_worn m n (Sick f) h t = absurd h.so
-flushed_worn m n (PowerLost f) h t = h.so.each t
+flushed_side : (m n : Meaning) (p : Answer) → Lawful n → m.power ≡ Ok tt → Flushes m p n
+    → Side ((p ≡ Ok tt) × ((t : ℕ) → n.sector t ≡ settled (m.sector t))) (Unit {0}) m m.sector p n
+flushed_side m n p k on c =
+    went_side m n m.sector p k (λ h t. kept_worn (m.sector t) (n.sector t) (settled_kept (m.sector t) (n.sector t) (h t))) (λ e h. (e, h)) (λ e. tt)
+    (flushed_went m n p on c)
 
-flush_accepted : (a b a' b' : Meaning) → a.power ≡ Ok tt → b.power ≡ Ok tt → SideFlushed a Fine a' → SideFlushed b Fine b' → Flushes (mirrored a b) (Ok tt) (mirrored a' b')
-flush_accepted a b a' b' pa pb h k =
-    let ea = h.size in
-    let eb = k.size in
-    flushes_went (mirrored a b) (mirrored a' b') (Ok tt) (both_on a.power b.power pa pb)
-    (record {
-      size = omega arith;
-      so = λ t.
-          ap (λ (x : Sector). either x (b'.sector t)) (h.so t) ∙ ap (λ (x : Sector). either (settled (a.sector t)) x) (k.so t)
-          ∙ either_settled (a.sector t) (b.sector t);
-    })
-
-flush_lost : (a b a' b' : Meaning) (o p : Outcome) (f : Fault) → a.power ≡ Ok tt → b.power ≡ Ok tt
-    → (a'.power ≡ Err f) ⊎ (b'.power ≡ Err f) → SideFlushed a o a' → SideFlushed b p b'
-    → Flushes (mirrored a b) (answer_of (power_fault (both_power a'.power b'.power))) (mirrored a' b')
-flush_lost a b a' b' o p f pa pb off h k =
-    flushes_went (mirrored a b) (mirrored a' b') (answer_of (power_fault (both_power a'.power b'.power))) (both_on a.power b.power pa pb)
-    (mirror_lost a b a' b' a.sector b.sector (mirrored a b).sector ((t : ℕ) → (mirrored a' b').sector t ≡ settled ((mirrored a b).sector t)) f
-    h.size k.size off (flushed_worn a a' o h) (flushed_worn b b' p k) (λ t. refl))
-
-pub flush_joined : (a b a' b' : Meaning) (o p : Outcome) → a.power ≡ Ok tt → b.power ≡ Ok tt → SideFlushed a o a' → SideFlushed b p b'
-    → Flushes (mirrored a b) (joined o p (both_power a'.power b'.power)) (mirrored a' b')
-flush_joined a b a' b' Fine Fine pa pb h k = flush_accepted a b a' b' pa pb h k
-flush_joined a b a' b' Fine (Sick g) pa pb h k = absurd k.so
-flush_joined a b a' b' Fine (PowerLost g) pa pb h k = flush_lost a b a' b' Fine (PowerLost g) g pa pb (inr k.so.power) h k
-flush_joined a b a' b' (Sick f) p pa pb h k = absurd h.so
-flush_joined a b a' b' (PowerLost f) p pa pb h k = flush_lost a b a' b' (PowerLost f) p f pa pb (inl h.so.power) h k
-
-pub flush_lists : (a b a' b' : Meaning) (o p : Outcome) → SideFlushed a o a' → SideFlushed b p b' → EachFlushed (joined o p (both_power a'.power b'.power)) a b a' b'
-flush_lists a b a' b' Fine Fine h k = (h.so, k.so)
-flush_lists a b a' b' Fine (Sick g) h k = absurd k.so
-flush_lists a b a' b' Fine (PowerLost g) h k =
-    lost_says (((t : ℕ) → a'.sector t ≡ settled (a.sector t)) × ((t : ℕ) → b'.sector t ≡ settled (b.sector t))) a'.power b'.power g (inr k.so.power)
-flush_lists a b a' b' (Sick f) p h k = absurd h.so
-flush_lists a b a' b' (PowerLost f) p h k =
-    lost_says (((t : ℕ) → a'.sector t ≡ settled (a.sector t)) × ((t : ℕ) → b'.sector t ≡ settled (b.sector t))) a'.power b'.power f (inl h.so.power)
+-- a flush of the mirror, by those of its sides
+pub flush_joined : (m n : Mirror Meaning Meaning) (r : Answer) → LawfulSides n → (mirrored m.first m.second).power ≡ Ok tt
+    → BothFlushed (λ a. a) (λ b. b) Flushes Flushes m r n → Flushes (mirrored m.first m.second) r (mirrored n.first n.second)
+flush_joined m n r k on did =
+    let a = m.first in
+    let b = m.second in
+    let a' = n.first in
+    let b' = n.second in
+    let were = both_were_on a.power b.power (ap power_fault on) in
+    subst (λ (v : Answer). Flushes (mirrored a b) v (mirrored a' b')) (sym did.3)
+    (flushes_went (mirrored a b) (mirrored a' b') (joined did.0 did.1 (both_power a'.power b'.power)) on
+    (joined_went a b a' b' a.sector b.sector (mirrored a b).sector did.0 did.1
+    (flushed_side a a' did.0 k.0 were.0 did.2.0) (flushed_side b b' did.1 k.1 were.1 did.2.1) (λ t. refl)
+    (λ x y. (first_answers did.0 did.1 x.0, λ t. either_both (x.1 t) (y.1 t) ∙ either_settled (a.sector t) (b.sector t)))))
+  where
+    either_both : {x x' y y' : Sector} → x ≡ x' → y ≡ y' → either x y ≡ either x' y'
+    either_both h k = cc
 
 -- cut
 

@@ -1,52 +1,35 @@
 // A mirror: two devices that hold the same.
-ghost use Rattle.std.specs.Prelude.{◌≡◌, min, ◌∷◌, map, Ok};
-ghost use Rattle.device.specs.Calls.{Reads, Writes, Flushes, answer_of, power_fault};
+ghost use Rattle.std.specs.Prelude.{◌≡◌, min, ◌∷◌, map};
+ghost use Rattle.device.specs.Faults.{Answer};
+ghost use Rattle.device.specs.Calls.{Reads, Writes, Flushes, answer_of};
 ghost use Rattle.device.specs.Cuts.{EachCut, cut_by};
 ghost use Rattle.layers.specs.Mirrored.{both_power, mirror_layer, mirror_meaning};
 ghost use Rattle.layers.specs.MirroredLawful.{mirrored_lawful};
-ghost use Rattle.layers.specs.Sides.{joined, OnSides, Ready, SideRead, SideWrote, SideFlushed, SidesRead, SidesWrote, SidesFlushed, Joined, MirrorReads, MirrorWrites, MirrorFlushes, EachWrote, EachFlushed, outcome_answer, SidesFetched, EitherFetched, MirrorFetched, BothWrote, MirrorWrote, BothFlushed, MirrorFlushed};
+ghost use Rattle.layers.specs.Sides.{failed_by, joined, sides_of, mirror_stands, EitherFetched, BothWrote, BothFlushed, MirrorFetched, MirrorWrote, MirrorFlushed, MirrorReads, MirrorWrites, MirrorFlushes, EachWrote, EachFlushed};
 ghost use Rattle.layers.specs.WholeCuts.{WholeCut, mirror_images, under_mirror};
 
-use device::fault::raised;
-use device::{CuttableDevice, Device, Fault, Layer};
+use device::fault::{in_range, raised};
+use device::{Cause, CuttableDevice, Device, Fault, Layer};
 
-// How a call ended on one side.
-#[derive(Clone, Copy)]
-enum Outcome {
-    // the side accepted it, or was not asked
-    Fine,
-    // the sector is sick there
-    Sick(Fault),
-    // power went off in the call, which was not accepted
-    PowerLost(Fault),
+// Whether a call failed by this cause.
+fn failed_by(cause: Cause, answer: Result<(), Fault>) -> bool
+    ensures { result ≡ failed_by cause answer }
+{
+    answer.is_err_and(|fault| fault.cause == cause)
 }
 
-// How a call ended on each side.
-#[derive(Clone, Copy)]
-struct Sides {
-    first: Outcome,
-    second: Outcome,
-}
-
-impl Sides {
-    // What the mirror answers, if this is its power after the call.
-    fn answer(self, power: Result<(), Fault>) -> Result<(), Fault>
-        ensures { result ≡ joined self.first self.second power }
-    {
-        match self.first {
-            Outcome::Fine => match self.second {
-                Outcome::Fine => Ok(()),
-                Outcome::Sick(_) => Ok(()),
-                Outcome::PowerLost(_) => power,
-            },
-            Outcome::Sick(fault) => match self.second {
-                Outcome::Fine => Ok(()),
-                Outcome::Sick(_) => Err(fault.raised()),
-                Outcome::PowerLost(_) => power,
-            },
-            Outcome::PowerLost(_) => power,
-        }
+// What the mirror answers, by what each side answered and by the mirror's power after the call.
+fn joined(
+    first: Result<(), Fault>,
+    second: Result<(), Fault>,
+    power: Result<(), Fault>,
+) -> Result<(), Fault>
+    ensures { result ≡ joined first second power }
+{
+    if failed_by(Cause::PowerLost, first) || failed_by(Cause::PowerLost, second) {
+        return power;
     }
+    raised(second.or(first))
 }
 
 // The power of a mirror, by that of its sides.
@@ -54,48 +37,6 @@ fn both_power(first: Result<(), Fault>, second: Result<(), Fault>) -> Result<(),
     ensures { result ≡ both_power first second }
 {
     raised(first.and(second))
-}
-
-// Reads one side.
-fn read_side<D: Device>(side: &mut D, sector: u32, buffer: &mut [u8; 512]) -> Outcome
-    requires { Ready (D.Device.meaning side.old) sector }
-    ensures meets { SideRead (D.Device.meaning side.old) sector buffer.old result (D.Device.meaning side.new) buffer.new }
-    ensures exact { D.Device.fetched side.old sector buffer.old (outcome_answer result) side.new buffer.new }
-{
-    match side.read(sector, buffer) {
-        Ok(()) => Outcome::Fine,
-        Err(fault) => match side.power() {
-            Ok(()) => Outcome::Sick(fault),
-            Err(_) => Outcome::PowerLost(fault),
-        },
-    }
-}
-
-// Writes to one side.
-fn write_side<D: Device>(side: &mut D, sector: u32, content: &[u8; 512]) -> Outcome
-    requires { Ready (D.Device.meaning side.old) sector }
-    ensures meets { SideWrote (D.Device.meaning side.old) sector content.now result (D.Device.meaning side.new) }
-    ensures exact { D.Device.wrote side.old sector content.now (outcome_answer result) side.new }
-{
-    match side.write(sector, content) {
-        Ok(()) => Outcome::Fine,
-        Err(fault) => match side.power() {
-            Ok(()) => Outcome::Sick(fault),
-            Err(_) => Outcome::PowerLost(fault),
-        },
-    }
-}
-
-// Flushes one side.
-fn flush_side<D: Device>(side: &mut D) -> Outcome
-    requires { (D.Device.meaning side.old).power ≡ Ok tt }
-    ensures meets { SideFlushed (D.Device.meaning side.old) result (D.Device.meaning side.new) }
-    ensures exact { D.Device.flushed side.old (outcome_answer result) side.new }
-{
-    match side.flush() {
-        Ok(()) => Outcome::Fine,
-        Err(fault) => Outcome::PowerLost(fault),
-    }
 }
 
 // Two devices that hold the same.
@@ -121,96 +62,47 @@ impl<D, E> Mirror<D, E> {
     }
 }
 
-// What each call does to each side.
+// What each call does to the sides.
 impl<D: Device, E: Device> Mirror<D, E> {
-    // Asks the first side, or the second where the first is sick.
-    fn read_sides(&mut self, sector: u32, buffer: &mut [u8; 512]) -> Sides
-        requires first { Ready (D.Device.meaning self.old.first) sector }
-        requires second { Ready (E.Device.meaning self.old.second) sector }
-        ensures meets { OnSides D.Device.meaning E.Device.meaning (SidesRead sector buffer.old buffer.new result.first result.second) self.old self.new }
-        ensures exact { SidesFetched D.Device.fetched E.Device.fetched sector buffer.old buffer.new result.first result.second self.old self.new }
+    // What the mirror itself finds in the way of a read or a write.
+    fn ready(&self, sector: u32) -> Result<(), Fault>
+        ensures { result ≡ answer_of (mirror_stands (mirror_meaning D.Device.meaning E.Device.meaning self.now) sector) }
     {
-        match read_side(&mut self.first, sector, buffer) {
-            Outcome::Fine => Sides {
-                first: Outcome::Fine,
-                second: Outcome::Fine,
-            },
-            Outcome::Sick(fault) => Sides {
-                first: Outcome::Sick(fault),
-                second: read_side(&mut self.second, sector, buffer),
-            },
-            Outcome::PowerLost(fault) => Sides {
-                first: Outcome::PowerLost(fault),
-                second: Outcome::Fine,
-            },
+        in_range(Layer::Mirror.into(), self.size(), sector)?;
+        self.power()
+    }
+
+    // Reads the first side, or the second where the first is sick.
+    fn read_either(&mut self, sector: u32, buffer: &mut [u8; 512]) -> Result<(), Fault>
+        ensures sides { EitherFetched (λ a. a) (λ b. b) (Reads D.Device.layer) (Reads E.Device.layer) (sides_of D.Device.meaning E.Device.meaning self.old) sector buffer.old result (sides_of D.Device.meaning E.Device.meaning self.new) buffer.new }
+        ensures exact { EitherFetched D.Device.meaning E.Device.meaning D.Device.fetched E.Device.fetched self.old sector buffer.old result self.new buffer.new }
+    {
+        let first = self.first.read(sector, buffer);
+        if !failed_by(Cause::Sick, first) {
+            return joined(first, Ok(()), self.power());
         }
+        let second = self.second.read(sector, buffer);
+        joined(first, second, self.power())
     }
 
     // Writes to both sides.
-    fn write_sides(&mut self, sector: u32, content: &[u8; 512]) -> Sides
-        requires first { Ready (D.Device.meaning self.old.first) sector }
-        requires second { Ready (E.Device.meaning self.old.second) sector }
-        ensures meets { OnSides D.Device.meaning E.Device.meaning (SidesWrote sector content.now result.first result.second) self.old self.new }
-        ensures exact_first { D.Device.wrote self.old.first sector content.now (outcome_answer result.first) self.new.first }
-        ensures exact_second { E.Device.wrote self.old.second sector content.now (outcome_answer result.second) self.new.second }
+    fn write_both(&mut self, sector: u32, content: &[u8; 512]) -> Result<(), Fault>
+        ensures sides { BothWrote (λ a. a) (λ b. b) (Writes D.Device.layer) (Writes E.Device.layer) (sides_of D.Device.meaning E.Device.meaning self.old) sector content.now result (sides_of D.Device.meaning E.Device.meaning self.new) }
+        ensures exact { BothWrote D.Device.meaning E.Device.meaning D.Device.wrote E.Device.wrote self.old sector content.now result self.new }
     {
-        let first = write_side(&mut self.first, sector, content);
-        let second = write_side(&mut self.second, sector, content);
-        Sides { first, second }
+        let first = self.first.write(sector, content);
+        let second = self.second.write(sector, content);
+        joined(first, second, self.power())
     }
 
     // Flushes both sides.
-    fn flush_sides(&mut self) -> Sides
-        requires first { (D.Device.meaning self.old.first).power ≡ Ok tt }
-        requires second { (E.Device.meaning self.old.second).power ≡ Ok tt }
-        ensures meets { OnSides D.Device.meaning E.Device.meaning (SidesFlushed result.first result.second) self.old self.new }
-        ensures exact_first { D.Device.flushed self.old.first (outcome_answer result.first) self.new.first }
-        ensures exact_second { E.Device.flushed self.old.second (outcome_answer result.second) self.new.second }
+    fn flush_both(&mut self) -> Result<(), Fault>
+        ensures sides { BothFlushed (λ a. a) (λ b. b) Flushes Flushes (sides_of D.Device.meaning E.Device.meaning self.old) result (sides_of D.Device.meaning E.Device.meaning self.new) }
+        ensures exact { BothFlushed D.Device.meaning E.Device.meaning D.Device.flushed E.Device.flushed self.old result self.new }
     {
-        let first = flush_side(&mut self.first);
-        let second = flush_side(&mut self.second);
-        Sides { first, second }
-    }
-}
-
-// What each call means for the mirror.
-impl<D: Device, E: Device> Mirror<D, E> {
-    // A read, where both sides are ready.
-    fn read_ready(&mut self, sector: u32, buffer: &mut [u8; 512]) -> Result<(), Fault>
-        requires first { Ready (D.Device.meaning self.old.first) sector }
-        requires second { Ready (E.Device.meaning self.old.second) sector }
-        ensures meets { Reads mirror_layer (mirror_meaning D.Device.meaning E.Device.meaning self.old) sector buffer.old result (mirror_meaning D.Device.meaning E.Device.meaning self.new) buffer.new }
-        ensures sides { OnSides D.Device.meaning E.Device.meaning (Joined (SidesRead sector buffer.old buffer.new) result) self.old self.new }
-        ensures exact { EitherFetched D.Device.meaning E.Device.meaning D.Device.fetched E.Device.fetched sector buffer.old buffer.new result self.old self.new }
-    {
-        let sides = self.read_sides(sector, buffer);
-        sides.answer(self.power())
-    }
-
-    // A write, where both sides are ready.
-    fn write_ready(&mut self, sector: u32, content: &[u8; 512]) -> Result<(), Fault>
-        requires first { Ready (D.Device.meaning self.old.first) sector }
-        requires second { Ready (E.Device.meaning self.old.second) sector }
-        ensures meets { Writes mirror_layer (mirror_meaning D.Device.meaning E.Device.meaning self.old) sector content.now result (mirror_meaning D.Device.meaning E.Device.meaning self.new) }
-        ensures lists { OnSides D.Device.meaning E.Device.meaning (EachWrote sector content.now result) self.old self.new }
-        ensures sides { OnSides D.Device.meaning E.Device.meaning (Joined (SidesWrote sector content.now) result) self.old self.new }
-        ensures exact { BothWrote D.Device.meaning E.Device.meaning D.Device.wrote E.Device.wrote sector content.now result self.old self.new }
-    {
-        let sides = self.write_sides(sector, content);
-        sides.answer(self.power())
-    }
-
-    // A flush, where both sides have power.
-    fn flush_ready(&mut self) -> Result<(), Fault>
-        requires first { (D.Device.meaning self.old.first).power ≡ Ok tt }
-        requires second { (E.Device.meaning self.old.second).power ≡ Ok tt }
-        ensures meets { Flushes (mirror_meaning D.Device.meaning E.Device.meaning self.old) result (mirror_meaning D.Device.meaning E.Device.meaning self.new) }
-        ensures lists { OnSides D.Device.meaning E.Device.meaning (EachFlushed result) self.old self.new }
-        ensures sides { OnSides D.Device.meaning E.Device.meaning (Joined SidesFlushed result) self.old self.new }
-        ensures exact { BothFlushed D.Device.meaning E.Device.meaning D.Device.flushed E.Device.flushed result self.old self.new }
-    {
-        let sides = self.flush_sides();
-        sides.answer(self.power())
+        let first = self.first.flush();
+        let second = self.second.flush();
+        joined(first, second, self.power())
     }
 }
 
@@ -261,37 +153,31 @@ impl<D: Device, E: Device> Device for Mirror<D, E> {
 
     fn read(&mut self, sector: u32, buffer: &mut [u8; 512]) -> Result<(), Fault>
         ensures meets { Reads mirror_layer (mirror_meaning D.Device.meaning E.Device.meaning self.old) sector buffer.old result (mirror_meaning D.Device.meaning E.Device.meaning self.new) buffer.new }
-        ensures sides { OnSides D.Device.meaning E.Device.meaning (MirrorReads sector buffer.old buffer.new result) self.old self.new }
+        ensures sides { MirrorReads D.Device.layer E.Device.layer (sides_of D.Device.meaning E.Device.meaning self.old) sector buffer.old result (sides_of D.Device.meaning E.Device.meaning self.new) buffer.new }
         ensures exact { MirrorFetched D.Device.meaning E.Device.meaning D.Device.fetched E.Device.fetched self.old sector buffer.old result self.new buffer.new }
     {
-        if sector >= self.size() {
-            return Err(Fault::out_of_range(Layer::Mirror.into(), sector));
-        }
-        self.power()?;
-        self.read_ready(sector, buffer)
+        self.ready(sector)?;
+        self.read_either(sector, buffer)
     }
 
     fn write(&mut self, sector: u32, content: &[u8; 512]) -> Result<(), Fault>
         ensures meets { Writes mirror_layer (mirror_meaning D.Device.meaning E.Device.meaning self.old) sector content.now result (mirror_meaning D.Device.meaning E.Device.meaning self.new) }
-        ensures lists { OnSides D.Device.meaning E.Device.meaning (EachWrote sector content.now result) self.old self.new }
-        ensures sides { OnSides D.Device.meaning E.Device.meaning (MirrorWrites sector content.now result) self.old self.new }
+        ensures lists { EachWrote (sides_of D.Device.meaning E.Device.meaning self.old) sector content.now result (sides_of D.Device.meaning E.Device.meaning self.new) }
+        ensures sides { MirrorWrites D.Device.layer E.Device.layer (sides_of D.Device.meaning E.Device.meaning self.old) sector content.now result (sides_of D.Device.meaning E.Device.meaning self.new) }
         ensures exact { MirrorWrote D.Device.meaning E.Device.meaning D.Device.wrote E.Device.wrote self.old sector content.now result self.new }
     {
-        if sector >= self.size() {
-            return Err(Fault::out_of_range(Layer::Mirror.into(), sector));
-        }
-        self.power()?;
-        self.write_ready(sector, content)
+        self.ready(sector)?;
+        self.write_both(sector, content)
     }
 
     fn flush(&mut self) -> Result<(), Fault>
         ensures meets { Flushes (mirror_meaning D.Device.meaning E.Device.meaning self.old) result (mirror_meaning D.Device.meaning E.Device.meaning self.new) }
-        ensures lists { OnSides D.Device.meaning E.Device.meaning (EachFlushed result) self.old self.new }
-        ensures sides { OnSides D.Device.meaning E.Device.meaning (MirrorFlushes result) self.old self.new }
+        ensures lists { EachFlushed (sides_of D.Device.meaning E.Device.meaning self.old) result (sides_of D.Device.meaning E.Device.meaning self.new) }
+        ensures sides { MirrorFlushes (sides_of D.Device.meaning E.Device.meaning self.old) result (sides_of D.Device.meaning E.Device.meaning self.new) }
         ensures exact { MirrorFlushed D.Device.meaning E.Device.meaning D.Device.flushed E.Device.flushed self.old result self.new }
     {
         self.power()?;
-        self.flush_ready()
+        self.flush_both()
     }
 }
 
