@@ -8,38 +8,31 @@ use Rattle.device.specs.Cuts.{CutSector}
 use Rattle.device.proofs.Lists.{kept_refl}
 use Rattle.layers.specs.Mirrored.{either, mirrored}
 
-pub either_worn : (x y x' y' : Sector) → Worn x x' → Worn y y' → Worn (either x y) (either x' y')
-either_worn (held o n) y (held o' n') y' h k = h
-either_worn (held o n) y (sick f) y' h k = absurd h
-either_worn (sick f) y x' y' h k =
-    let P : Sector → Type 0 = λ v. Worn (either (sick f) y) (either v y') in subst P (sym h) (second f y y' k)
+-- a relation of a sector before and after a call that leaves a sick sector as it was, and makes no sector sick
+record KeepsSick (R : Sector → Sector → Type 0) : Type 0 where
+  same : (f : Fault) → R (sick f) (sick f)
+  only : (f : Fault) (t : Sector) → R (sick f) t → t ≡ sick f
+  none : (old : List (List ℕ)) (new : List ℕ) (f : Fault) → R (held old new) (sick f) → ⊥
+
+-- such a relation goes through a mirror sector by sector
+both_sides : (R : Sector → Sector → Type 0) → KeepsSick R → (x y x' y' : Sector) → R x x' → R y y' → R (either x y) (either x' y')
+both_sides R keeps (held o n) y (held o' n') y' h k = h
+both_sides R keeps (held o n) y (sick f) y' h k = absurd (keeps.none o n f h)
+both_sides R keeps (sick f) y x' y' h k = subst (λ (v : Sector). R (either (sick f) y) (either v y')) (sym (keeps.only f x' h)) (second y y' k)
   where
-    second : (f : Fault) (y y' : Sector) → Worn y y' → Worn (either (sick f) y) (either (sick f) y')
-    second f (held o n) (held o' n') k = k
-    second f (held o n) (sick g) k = absurd k
-    second f (sick g) y' k = let P : Sector → Type 0 = λ v. Worn (sick (raised f)) (either (sick f) v) in subst P (sym k) refl
+    second : (y y' : Sector) → R y y' → R (either (sick f) y) (either (sick f) y')
+    second (held o n) (held o' n') k = k
+    second (held o n) (sick g) k = absurd (keeps.none o n g k)
+    second (sick g) y' k = subst (λ (v : Sector). R (sick (raised f)) (either (sick f) v)) (sym (keeps.only g y' k)) (keeps.same (raised f))
+
+pub either_worn : (x y x' y' : Sector) → Worn x x' → Worn y y' → Worn (either x y) (either x' y')
+either_worn = both_sides Worn (record { same = λ f. refl; only = λ f t h. h; none = λ o n f h. h })
 
 pub either_kept : (x y x' y' : Sector) → Kept x x' → Kept y y' → Kept (either x y) (either x' y')
-either_kept (held o n) y (held o' n') y' h k = h
-either_kept (held o n) y (sick f) y' h k = absurd h
-either_kept (sick f) y x' y' h k =
-    let P : Sector → Type 0 = λ v. Kept (either (sick f) y) (either v y') in subst P (sym h) (second f y y' k)
-  where
-    second : (f : Fault) (y y' : Sector) → Kept y y' → Kept (either (sick f) y) (either (sick f) y')
-    second f (held o n) (held o' n') k = k
-    second f (held o n) (sick g) k = absurd k
-    second f (sick g) y' k = let P : Sector → Type 0 = λ v. Kept (sick (raised f)) (either (sick f) v) in subst P (sym k) refl
+either_kept = both_sides Kept (record { same = λ f. refl; only = λ f t h. h; none = λ o n f h. h })
 
 pub either_cut : (x y x' y' : Sector) → CutSector x x' → CutSector y y' → CutSector (either x y) (either x' y')
-either_cut (held o n) y (held o' n') y' h k = h
-either_cut (held o n) y (sick f) y' h k = absurd h
-either_cut (sick f) y x' y' h k =
-    let P : Sector → Type 0 = λ v. CutSector (either (sick f) y) (either v y') in subst P (sym h) (second f y y' k)
-  where
-    second : (f : Fault) (y y' : Sector) → CutSector y y' → CutSector (either (sick f) y) (either (sick f) y')
-    second f (held o n) (held o' n') k = k
-    second f (held o n) (sick g) k = absurd k
-    second f (sick g) y' k = let P : Sector → Type 0 = λ v. CutSector (sick (raised f)) (either (sick f) v) in subst P (sym k) refl
+either_cut = both_sides CutSector (record { same = λ f. refl; only = λ f t h. h; none = λ o n f h. h })
 
 pub either_settled : (x y : Sector) → either (settled x) (settled y) ≡ settled (either x y)
 either_settled (held o n) y = refl

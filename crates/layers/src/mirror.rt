@@ -27,16 +27,10 @@ fn joined(
     ensures { result ≡ joined first second power }
 {
     if failed_by(Cause::PowerLost, first) || failed_by(Cause::PowerLost, second) {
-        return power;
+        power
+    } else {
+        raised(second.or(first))
     }
-    raised(second.or(first))
-}
-
-// The power of a mirror, by that of its sides.
-fn both_power(first: Result<(), Fault>, second: Result<(), Fault>) -> Result<(), Fault>
-    ensures { result ≡ both_power first second }
-{
-    raised(first.and(second))
 }
 
 // Two devices that hold the same.
@@ -106,26 +100,6 @@ impl<D: Device, E: Device> Mirror<D, E> {
     }
 }
 
-impl<D: CuttableDevice, E: CuttableDevice> Mirror<D, E> {
-    // Cuts both sides.
-    fn cut_sides(&mut self, plan: &[u8])
-        ensures first { WholeCut D.Device.meaning D.CuttableDevice.images D.CuttableDevice.below plan.now self.old.first self.new.first }
-        ensures second { WholeCut E.Device.meaning E.CuttableDevice.images E.CuttableDevice.below plan.now self.old.second self.new.second }
-    {
-        self.first.cut(plan);
-        self.second.cut(plan);
-    }
-
-    // A cut of the mirror.
-    fn cut_both(&mut self, plan: &[u8])
-        ensures mirror { WholeCut (mirror_meaning D.Device.meaning E.Device.meaning) (mirror_images D.CuttableDevice.images E.CuttableDevice.images) (under_mirror D.Device.meaning D.CuttableDevice.below E.Device.meaning E.CuttableDevice.below) plan.now self.old self.new }
-        ensures first { WholeCut D.Device.meaning D.CuttableDevice.images D.CuttableDevice.below plan.now self.old.first self.new.first }
-        ensures second { WholeCut E.Device.meaning E.CuttableDevice.images E.CuttableDevice.below plan.now self.old.second self.new.second }
-    {
-        self.cut_sides(plan);
-    }
-}
-
 impl<D: Device, E: Device> Device for Mirror<D, E> {
     ghost meaning = { mirror_meaning D.Device.meaning E.Device.meaning };
 
@@ -148,7 +122,7 @@ impl<D: Device, E: Device> Device for Mirror<D, E> {
     fn power(&self) -> Result<(), Fault>
         ensures { result ≡ both_power (D.Device.meaning self.now.first).power (E.Device.meaning self.now.second).power }
     {
-        both_power(self.first.power(), self.second.power())
+        raised(self.first.power().and(self.second.power()))
     }
 
     fn read(&mut self, sector: u32, buffer: &mut [u8; 512]) -> Result<(), Fault>
@@ -192,6 +166,7 @@ impl<D: CuttableDevice, E: CuttableDevice> CuttableDevice for Mirror<D, E> {
         ensures first { WholeCut D.Device.meaning D.CuttableDevice.images D.CuttableDevice.below plan.now self.old.first self.new.first }
         ensures second { WholeCut E.Device.meaning E.CuttableDevice.images E.CuttableDevice.below plan.now self.old.second self.new.second }
     {
-        self.cut_both(plan);
+        self.first.cut(plan);
+        self.second.cut(plan);
     }
 }
