@@ -1,5 +1,5 @@
 -- From what a call did to each side to what it did to the mirror.
-use Rattle.std.proofs.Common.{◌≡◌, ℕ, ◌<◌, Bool, true, false, cond, nat_lt, ◌⊎◌, List, Some, None, Ok, Err, Option, ◌==◌, sym, refl, ap, ◌∙◌, subst, inl, inr, arith, eqb-true, ltb-true}
+use Rattle.std.proofs.Common.{◌≡◌, ℕ, ◌<◌, Bool, true, false, cond, nat_lt, ◌⊎◌, List, Some, None, Ok, Err, Option, ◌==◌, sym, refl, ap, ◌∙◌, subst, inl, inr, arith, eqb-true, ltb-true, true≢false}
 use Rattle.std.specs.Prelude.{MatchBool}
 use Rattle.device.specs.declared.fault.Cause.{Cause}
 use Rattle.device.specs.declared.fault.Cause.TheVariants.{Sick, PowerLost}
@@ -68,9 +68,6 @@ ready_stands a b s h k =
 
 -- causes
 
-true_false : true ≡ false → ⊥
-true_false e = let z : ◌≡◌ {A = ℕ} 0 1 = cc in absurd (omega arith)
-
 -- where power went off in a call, the fault says so
 lost_says : (n : Meaning) (f : Fault) → Lawful n → n.power ≡ Err f → failed_by PowerLost (Err f) ≡ true
 lost_says n f h e = ap (λ (c : Cause). cause_number c == 3) (subst LawfulPower e h.power).0
@@ -79,13 +76,19 @@ lost_says n f h e = ap (λ (c : Cause). cause_number c == 3) (subst LawfulPower 
 sick_says : (f : Fault) → f.cause ≡ Sick → (failed_by PowerLost (Err f) ≡ false) × (failed_by Sick (Err f) ≡ true)
 sick_says f e = (ap (λ (c : Cause). cause_number c == 3) e, ap (λ (c : Cause). cause_number c == 2) e)
 
+one_cause : (p : Answer) → failed_by Sick p ≡ true → failed_by PowerLost p ≡ false
+one_cause (Ok x) e = refl
+one_cause (Err f) e = ap (λ (c : ℕ). c == 3) (eqb-true (cause_number f.cause) 2 e)
+
+-- sides
+
 -- what a call did to one side: Done, or power went off in it and Lost
 record Side (Done Lost : Type 0) (m : Meaning) (at : ℕ → Sector) (p : Answer) (n : Meaning) : Type 0 where
   size : n.size ≡ m.size
   worn : (t : ℕ) → Worn (at t) (n.sector t)
   how : ((failed_by PowerLost p ≡ false) × Done) ⊎ ((failed_by PowerLost p ≡ true) × (f : Fault) × (n.power ≡ Err f) × Lost)
 
--- a side that was not sick
+-- a call that nothing stood in the way of
 went_side : {Done Lost Then : Type 0} (m n : Meaning) (at : ℕ → Sector) (p : Answer) → Lawful n
     → (Done → (t : ℕ) → Worn (at t) (n.sector t)) → (p ≡ Ok tt → Done → Then) → (failed_by PowerLost p ≡ true → Lost)
     → Went m at Done p n → Side Then Lost m at p n
@@ -94,64 +97,91 @@ went_side m n at (Err f) h wears does loses w =
     let says = lost_says n f h w.so.power in
     record { size = w.size; worn = w.so.each; how = inr (says, f, w.so.power, loses says) }
 
--- a call that a side took in which power stayed, or that it refused since the sector is sick: it was accepted unless the sector is sick
+-- a call to sector s in which power stayed: it was accepted unless the sector is sick
 record Took (m : Meaning) (s : ℕ) (at : ℕ → Sector) (p : Answer) (n : Meaning) : Type 0 where
   answers : sick_fault (m.sector s) ≡ None → p ≡ Ok tt
   kept : Accepted at n
 
-accepted_worn : (at : ℕ → Sector) (n : Meaning) → Accepted at n → (t : ℕ) → Worn (at t) (n.sector t)
-accepted_worn at n h t = kept_worn (at t) (n.sector t) (h t)
-
-side_at : {Lost : Type 0} (m n : Meaning) (s : ℕ) (at : ℕ → Sector) (p : Answer) (x : Sector) → m.sector s ≡ x → LawfulSector x → Lawful n
-    → ((f : Fault) → m.sector s ≡ sick f → Accepted at m) → (failed_by PowerLost p ≡ true → Lost)
-    → ByFault (sick_fault x) (λ f. Refused f m p n) (Went m at (Accepted at n) p n)
-    → Side (Took m s at p n) Lost m at p n
-side_at m n s at p (sick f) e l k stays loses h =
-    let kept : Accepted at n = subst (Accepted at) (sym h.same) (stays f e) in
-    record {
-      size = ap (λ (v : Meaning). v.size) h.same;
-      worn = accepted_worn at n kept;
-      how = inl (ap (failed_by PowerLost) h.says ∙ (sick_says f l).0, record { answers = λ i. cc (ap sick_fault e); kept = kept });
-    }
-side_at m n s at p (held old new) e l k stays loses h =
-    went_side m n at p k (accepted_worn at n) (λ a t. record { answers = λ i. a; kept = t }) loses h
-
--- a call to sector s that neither range nor power stood in the way of, and that is to leave the sectors `at`
+-- a call to sector s that neither range nor power stood in the way of
 abbrev Called : Meaning → ℕ → (ℕ → Sector) → Answer → Meaning → Type 0
 Called m s at p n = ByFault (sick_fault (m.sector s)) (λ f. Refused f m p n) (Went m at (Accepted at n) p n)
 
--- such a call to a side that was ready
-called : (d : ℕ) (m n : Meaning) (s : ℕ) (at : ℕ → Sector) (p : Answer) → Ready m s
-    → ByFault (standing d m s) (λ f. Refused f m p n) (Went m at (Accepted at n) p n) → Called m s at p n
-called d m n s at p ready c = subst (λ (o : Option Fault). ByFault o (λ f. Refused f m p n) (Went m at (Accepted at n) p n)) (side_stands d s m ready) c
+-- such a call to a lawful side
+record Asked (Lost : Type 0) (m : Meaning) (s : ℕ) (at : ℕ → Sector) (p : Answer) (n : Meaning) : Type 0 where
+  law : LawfulSector (m.sector s)
+  call : Called m s at p n
+  side : Side (Took m s at p n) Lost m at p n
 
-side : {Lost : Type 0} (m n : Meaning) (s : ℕ) (at : ℕ → Sector) (p : Answer) → LawfulSector (m.sector s) → Lawful n
+called_side : {Lost : Type 0} (m n : Meaning) (s : ℕ) (at : ℕ → Sector) (p : Answer) (x : Sector) → m.sector s ≡ x → LawfulSector x → Lawful n
     → ((f : Fault) → m.sector s ≡ sick f → Accepted at m) → (failed_by PowerLost p ≡ true → Lost)
-    → Called m s at p n → Side (Took m s at p n) Lost m at p n
-side m n s at p l k stays loses c = side_at m n s at p (m.sector s) refl l k stays loses c
+    → ByFault (sick_fault x) (λ f. Refused f m p n) (Went m at (Accepted at n) p n)
+    → Side (Took m s at p n) Lost m at p n
+called_side m n s at p (sick f) e l k stays loses h =
+    let kept : Accepted at n = subst (Accepted at) (sym h.same) (stays f e) in
+    record {
+      size = ap (λ (v : Meaning). v.size) h.same;
+      worn = λ t. kept_worn (at t) (n.sector t) (kept t);
+      how = inl (ap (failed_by PowerLost) h.says ∙ (sick_says f l).0, record { answers = λ i. cc (ap sick_fault e); kept = kept });
+    }
+called_side m n s at p (held old new) e l k stays loses h =
+    went_side m n at p k (λ a t. kept_worn (at t) (n.sector t) (a t)) (λ a t. record { answers = λ i. a; kept = t }) loses h
+
+asked : {Lost : Type 0} (d : ℕ) (m n : Meaning) (s : ℕ) (at : ℕ → Sector) (p : Answer) → Ready m s → Lawful m → Lawful n
+    → ((f : Fault) → m.sector s ≡ sick f → Accepted at m) → (failed_by PowerLost p ≡ true → Lost)
+    → ByFault (standing d m s) (λ f. Refused f m p n) (Went m at (Accepted at n) p n) → Asked Lost m s at p n
+asked d m n s at p ready h k stays loses c =
+    let law = h.each s ready.range in
+    let call = subst (λ (o : Option Fault). ByFault o (λ f. Refused f m p n) (Went m at (Accepted at n) p n)) (side_stands d s m ready) c in
+    record { law = law; call = call; side = called_side m n s at p (m.sector s) refl law k stays loses call }
+
+-- a side that was not asked
+same_side : {Lost : Type 0} (m n : Meaning) (s : ℕ) (q : Answer) → q ≡ Ok tt → n ≡ m → Side (Took m s m.sector q n) Lost m m.sector q n
+same_side m n s q e same = record {
+  size = ap (λ (v : Meaning). v.size) same;
+  worn = λ t. subst (λ (v : Meaning). Worn (m.sector t) (v.sector t)) (sym same) (worn_refl (m.sector t));
+  how = inl (
+    ap (failed_by PowerLost) e,
+    record {
+      answers = λ i. e;
+      kept = λ t. subst (λ (v : Meaning). Kept (m.sector t) (v.sector t)) (sym same) (kept_refl (m.sector t));
+    },
+  );
+}
+
+-- a side that answers that it is sick is sick
+is_sick : (m n : Meaning) (s : ℕ) (at : ℕ → Sector) (p : Answer) (x : Sector) → m.sector s ≡ x → Lawful n → failed_by Sick p ≡ true
+    → ByFault (sick_fault x) (λ f. Refused f m p n) (Went m at (Accepted at n) p n) → (f : Fault) × (m.sector s ≡ sick f) × (p ≡ Err f)
+is_sick m n s at p (sick f) e k v c = (f, e, c.says)
+is_sick m n s at (Ok x) (held o w) e k v c = absurd (true≢false (sym v))
+is_sick m n s at (Err f) (held o w) e k v c = absurd (true≢false (sym (lost_says n f k c.so.power) ∙ one_cause (Err f) v))
+
+-- and one that does not is not
+is_well : (m n : Meaning) (at : ℕ → Sector) (p : Answer) (x : Sector) → LawfulSector x → failed_by Sick p ≡ false
+    → ByFault (sick_fault x) (λ f. Refused f m p n) (Went m at (Accepted at n) p n) → sick_fault x ≡ None
+is_well m n at p (sick f) l v c = absurd (true≢false (sym (sick_says f l).1 ∙ ap (failed_by Sick) (sym c.says) ∙ v))
+is_well m n at p (held o w) l v c = refl
+
+-- both sides
 
 -- the mirror's answer is that of the sides where power stayed on both, or else its power after the call
-joined_by : {A B Lost : Type 0} (P : Answer → Type 0) (a b a' b' : Meaning) (pa pb : ℕ → Sector) (p q : Answer)
+joined_by : {A B Lost : Type 0} {a b a' b' : Meaning} {p q : Answer} {pa pb : ℕ → Sector} (P : Answer → Type 0)
     → Side A Lost a pa p a' → Side B Lost b pb q b'
     → (A → B → P (either_answer p q)) → ((g : Fault) → both_power a'.power b'.power ≡ Err g → Lost → P (Err g))
     → P (joined p q (both_power a'.power b'.power))
-joined_by {A} {B} {Lost} P a b a' b' pa pb p q h k both lost = cases h.how k.how
+joined_by {A} {B} {Lost} {a} {b} {a'} {b'} {p} {q} P h k both lost = cases h.how k.how
   where
     power : Answer
     power = both_power a'.power b'.power
 
-    either_is : Answer
-    either_is = either_answer p q
-
     second_is : Bool → Answer
-    second_is v = cond v power either_is
+    second_is v = cond v power (either_answer p q)
 
     first_is : Bool → Answer
     first_is v = cond v power (second_is (failed_by PowerLost q))
 
     cases : ((failed_by PowerLost p ≡ false) × A) ⊎ ((failed_by PowerLost p ≡ true) × (f : Fault) × (a'.power ≡ Err f) × Lost)
         → ((failed_by PowerLost q ≡ false) × B) ⊎ ((failed_by PowerLost q ≡ true) × (f : Fault) × (b'.power ≡ Err f) × Lost)
-        → P (joined p q (both_power a'.power b'.power))
+        → P (joined p q power)
     cases (inl x) (inl y) = subst P (sym (ap first_is x.0 ∙ ap second_is y.0)) (both x.1 y.1)
     cases (inl x) (inr y) =
         let o = second_off a'.power b'.power y.1 y.2 in
@@ -160,16 +190,16 @@ joined_by {A} {B} {Lost} P a b a' b' pa pb p q h k both lost = cases h.how k.how
         let o = first_off a'.power b'.power x.1 x.2 in
         subst P (sym (ap first_is x.0 ∙ o)) (lost (raised x.1) o x.3)
 
--- what the call means for the mirror, where it was refused on neither side, or on one alone
-joined_went : {A B Lost Done : Type 0} (a b a' b' : Meaning) (pa pb at : ℕ → Sector) (p q : Answer)
+-- what the call did to the mirror, where one of the sides accepted it
+joined_went : {A B Lost Done : Type 0} {a b a' b' : Meaning} {p q : Answer} {pa pb : ℕ → Sector} (at : ℕ → Sector)
     → Side A Lost a pa p a' → Side B Lost b pb q b' → ((t : ℕ) → at t ≡ either (pa t) (pb t))
     → (A → B → (either_answer p q ≡ Ok tt) × Done)
     → Went (mirrored a b) at Done (joined p q (both_power a'.power b'.power)) (mirrored a' b')
-joined_went {A} {B} {Lost} {Done} a b a' b' pa pb at p q h k splits both =
+joined_went {A} {B} {Lost} {Done} {a} {b} {a'} {b'} {p} {q} {pa} {pb} at h k splits both =
     let ea = h.size in
     let eb = k.size in
     let small : (mirrored a' b').size ≡ (mirrored a b).size = omega arith in
-    joined_by (λ r. Went (mirrored a b) at Done r (mirrored a' b')) a b a' b' pa pb p q h k
+    joined_by (λ r. Went (mirrored a b) at Done r (mirrored a' b')) h k
     (λ x y. subst (λ (r : Answer). Went (mirrored a b) at Done r (mirrored a' b')) (sym (both x y).0) (record { size = small; so = (both x y).1 }))
     (λ g e l. record {
       size = small;
@@ -180,12 +210,6 @@ joined_went {A} {B} {Lost} {Done} a b a' b' pa pb at p q h k splits both =
       };
     })
 
--- contents that both sides keep are kept by the mirror
-both_kept : (a' b' : Meaning) (pa pb at : ℕ → Sector) → ((t : ℕ) → at t ≡ either (pa t) (pb t)) → Accepted pa a' → Accepted pb b' → Accepted at (mirrored a' b')
-both_kept a' b' pa pb at splits h k t =
-    subst (λ (v : Sector). Kept v (either (a'.sector t) (b'.sector t))) (sym (splits t))
-    (either_kept (pa t) (pb t) (a'.sector t) (b'.sector t) (h t) (k t))
-
 first_answers : (p q : Answer) → p ≡ Ok tt → either_answer p q ≡ Ok tt
 first_answers p q e = ap (λ (r : Answer). either_answer r q) e
 
@@ -194,48 +218,26 @@ second_answers (Ok x) q e = refl
 second_answers (Err f) q e = ap (either_answer (Err f)) e
 
 -- one of two sides that are not both sick accepted the call
-one_answers : (x y : Sector) (p q : Answer) → sick_fault (either x y) ≡ None → (sick_fault x ≡ None → p ≡ Ok tt) → (sick_fault y ≡ None → q ≡ Ok tt) → either_answer p q ≡ Ok tt
+one_answers : (x y : Sector) (p q : Answer) → sick_fault (either x y) ≡ None → (sick_fault x ≡ None → p ≡ Ok tt) → (sick_fault y ≡ None → q ≡ Ok tt)
+    → either_answer p q ≡ Ok tt
 one_answers (held o n) y p q e h k = first_answers p q (h refl)
 one_answers (sick f) (held o n) p q e h k = second_answers p q (k refl)
 one_answers (sick f) (sick g) p q e h k = cc
 
--- the mirror's call, by those of sides that both were asked
-both_went : {Lost : Type 0} (s : ℕ) (a b a' b' : Meaning) (pa pb at : ℕ → Sector) (p q : Answer)
-    → Side (Took a s pa p a') Lost a pa p a' → Side (Took b s pb q b') Lost b pb q b' → ((t : ℕ) → at t ≡ either (pa t) (pb t))
-    → sick_fault (either (a.sector s) (b.sector s)) ≡ None
-    → Went (mirrored a b) at (Accepted at (mirrored a' b')) (joined p q (both_power a'.power b'.power)) (mirrored a' b')
-both_went s a b a' b' pa pb at p q h k splits healthy =
-    joined_went a b a' b' pa pb at p q h k splits
-    (λ x y. (one_answers (a.sector s) (b.sector s) p q healthy x.answers y.answers, both_kept a' b' pa pb at splits x.kept y.kept))
-
--- such a call means the same for the mirror, whose range and power did not stand in the way either
-one_called : {Lost : Type 0} (s : ℕ) (a b a' b' : Meaning) (pa pb at : ℕ → Sector) (p q : Answer)
+-- a call to the mirror, where not both sides are sick
+well_called : {Lost : Type 0} {a b a' b' : Meaning} {p q : Answer} {pa pb : ℕ → Sector} {s : ℕ} (at : ℕ → Sector)
     → Side (Took a s pa p a') Lost a pa p a' → Side (Took b s pb q b') Lost b pb q b' → ((t : ℕ) → at t ≡ either (pa t) (pb t))
     → sick_fault (either (a.sector s) (b.sector s)) ≡ None
     → Called (mirrored a b) s at (joined p q (both_power a'.power b'.power)) (mirrored a' b')
-one_called s a b a' b' pa pb at p q h k splits healthy =
+well_called {Lost} {a} {b} {a'} {b'} {p} {q} {pa} {pb} {s} at h k splits healthy =
     let r = joined p q (both_power a'.power b'.power) in
     by_none (λ f. Refused f (mirrored a b) r (mirrored a' b')) (Went (mirrored a b) at (Accepted at (mirrored a' b')) r (mirrored a' b'))
-    (sick_fault (either (a.sector s) (b.sector s))) healthy (both_went s a b a' b' pa pb at p q h k splits healthy)
-
-mirror_called : (m n : Meaning) (s : ℕ) (at : ℕ → Sector) (r : Answer) → standing mirror_layer m s ≡ sick_fault (m.sector s) → Called m s at r n
-    → ByFault (standing mirror_layer m s) (λ f. Refused f m r n) (Went m at (Accepted at n) r n)
-mirror_called m n s at r e c = subst (λ (o : Option Fault). ByFault o (λ f. Refused f m r n) (Went m at (Accepted at n) r n)) (sym e) c
-
--- both sides of a mirror mean lawful devices, before and after a call
-abbrev pub LawfulSides : Mirror Meaning Meaning → Type 0
-LawfulSides m = Lawful m.first × Lawful m.second
-
--- where power stayed on both sides, both keep what they are to keep
-took_both : {Lost P : Type 0} (s : ℕ) (a b a' b' : Meaning) (pa pb : ℕ → Sector) (p q : Answer)
-    → Side (Took a s pa p a') Lost a pa p a' → Side (Took b s pb q b') Lost b pb q b' → (Accepted pa a' → Accepted pb b' → P)
-    → ByAnswer (joined p q (both_power a'.power b'.power)) P (λ f. Unit {0})
-took_both {Lost} {P} s a b a' b' pa pb p q h k both =
-    joined_by (λ r. ByAnswer r P (λ f. Unit {0})) a b a' b' pa pb p q h k (λ x y. if_ok (either_answer p q) (both x.kept y.kept)) (λ g e l. tt)
-  where
-    if_ok : (r : Answer) → P → ByAnswer r P (λ f. Unit {0})
-    if_ok (Ok x) t = t
-    if_ok (Err f) t = tt
+    (sick_fault (either (a.sector s) (b.sector s))) healthy
+    (joined_went at h k splits (λ x y. (
+      one_answers (a.sector s) (b.sector s) p q healthy x.answers y.answers,
+      λ t. subst (λ (v : Sector). Kept v (either (a'.sector t) (b'.sector t))) (sym (splits t))
+          (either_kept (pa t) (pb t) (a'.sector t) (b'.sector t) (x.kept t) (y.kept t)),
+    )))
 
 -- a call that a sick side refused
 refused_by : (m n : Meaning) (s : ℕ) (at : ℕ → Sector) (p : Answer) (f : Fault) → m.sector s ≡ sick f → Called m s at p n → Refused f m p n
@@ -253,19 +255,30 @@ both_refused a b a' b' p q power f g c d h k = record {
 }
 
 -- a call that both sides were asked
-both_called : {Lost : Type 0} (s : ℕ) (a b a' b' : Meaning) (pa pb at : ℕ → Sector) (p q : Answer) (x y : Sector)
-    → a.sector s ≡ x → b.sector s ≡ y → LawfulSector x → LawfulSector y
-    → Side (Took a s pa p a') Lost a pa p a' → Side (Took b s pb q b') Lost b pb q b' → ((t : ℕ) → at t ≡ either (pa t) (pb t))
-    → Called a s pa p a' → Called b s pb q b' → Called (mirrored a b) s at (joined p q (both_power a'.power b'.power)) (mirrored a' b')
-both_called s a b a' b' pa pb at p q (sick f) (sick g) ex ey lx ly h k splits ca cb =
-    let r = joined p q (both_power a'.power b'.power) in
-    by_some (λ e. Refused e (mirrored a b) r (mirrored a' b')) (Went (mirrored a b) at (Accepted at (mirrored a' b')) r (mirrored a' b'))
-    (sick_fault (either (a.sector s) (b.sector s))) (raised f) (both_sick (a.sector s) (b.sector s) f g ex ey)
-    (both_refused a b a' b' p q (both_power a'.power b'.power) f g lx ly (refused_by a a' s pa p f ex ca) (refused_by b b' s pb q g ey cb))
-both_called s a b a' b' pa pb at p q (held o n) y ex ey lx ly h k splits ca cb =
-    one_called s a b a' b' pa pb at p q h k splits (healthy_first (a.sector s) (b.sector s) (ap sick_fault ex))
-both_called s a b a' b' pa pb at p q (sick f) (held o n) ex ey lx ly h k splits ca cb =
-    one_called s a b a' b' pa pb at p q h k splits (healthy_second (a.sector s) (b.sector s) (ap sick_fault ey))
+both_called : {Lost : Type 0} {a b a' b' : Meaning} {p q : Answer} {pa pb : ℕ → Sector} {s : ℕ} (at : ℕ → Sector)
+    → Asked Lost a s pa p a' → Asked Lost b s pb q b' → ((t : ℕ) → at t ≡ either (pa t) (pb t))
+    → Called (mirrored a b) s at (joined p q (both_power a'.power b'.power)) (mirrored a' b')
+both_called {Lost} {a} {b} {a'} {b'} {p} {q} {pa} {pb} {s} at h k splits = cases (a.sector s) (b.sector s) refl refl h.law k.law
+  where
+    power : Answer
+    power = both_power a'.power b'.power
+
+    cases : (x y : Sector) → a.sector s ≡ x → b.sector s ≡ y → LawfulSector x → LawfulSector y → Called (mirrored a b) s at (joined p q power) (mirrored a' b')
+    cases (held o n) y ex ey lx ly = well_called at h.side k.side splits (healthy_first (a.sector s) (b.sector s) (ap sick_fault ex))
+    cases (sick f) (held o n) ex ey lx ly = well_called at h.side k.side splits (healthy_second (a.sector s) (b.sector s) (ap sick_fault ey))
+    cases (sick f) (sick g) ex ey lx ly =
+        by_some (λ e. Refused e (mirrored a b) (joined p q power) (mirrored a' b'))
+        (Went (mirrored a b) at (Accepted at (mirrored a' b')) (joined p q power) (mirrored a' b'))
+        (sick_fault (either (a.sector s) (b.sector s))) (raised f) (both_sick (a.sector s) (b.sector s) f g ex ey)
+        (both_refused a b a' b' p q power f g lx ly (refused_by a a' s pa p f ex h.call) (refused_by b b' s pb q g ey k.call))
+
+mirror_called : (m n : Meaning) (s : ℕ) (at : ℕ → Sector) (r : Answer) → standing mirror_layer m s ≡ sick_fault (m.sector s) → Called m s at r n
+    → ByFault (standing mirror_layer m s) (λ f. Refused f m r n) (Went m at (Accepted at n) r n)
+mirror_called m n s at r e c = subst (λ (o : Option Fault). ByFault o (λ f. Refused f m r n) (Went m at (Accepted at n) r n)) (sym e) c
+
+-- both sides of a mirror are lawful
+abbrev pub LawfulSides : Mirror Meaning Meaning → Type 0
+LawfulSides m = Lawful m.first × Lawful m.second
 
 -- read
 
@@ -292,89 +305,55 @@ second_filled : (f : Fault) (q : Answer) (new buffer : List ℕ) → filled q ne
 second_filled f (Ok x) new buffer = refl
 second_filled f (Err g) new buffer = refl
 
-one_cause : (p : Answer) → failed_by Sick p ≡ true → failed_by PowerLost p ≡ false
-one_cause (Ok x) e = refl
-one_cause (Err f) e = ap (λ (c : ℕ). c == 3) (eqb-true (cause_number f.cause) 2 e)
+-- a read of one side
+read_side : {Lost : Type 0} (d : ℕ) (m n : Meaning) (s : ℕ) (buffer buffer' : List ℕ) (p : Answer) → Ready m s → Lawful m → Lawful n
+    → (failed_by PowerLost p ≡ true → buffer' ≡ filled p (newest (m.sector s)) buffer → Lost)
+    → Reads d m s buffer p n buffer' → Asked Lost m s m.sector p n × (buffer' ≡ filled p (newest (m.sector s)) buffer)
+read_side d m n s buffer buffer' p ready h k loses did =
+    let c = read_filled (standing d m s) m n (Went m m.sector (Accepted m.sector n) p n) (newest (m.sector s)) buffer buffer' p did in
+    (asked d m n s m.sector p ready h k (λ f e t. kept_refl (m.sector t)) (λ e. loses e c.1) c.0, c.1)
 
--- a side that answers that it is sick is sick
-is_sick : (m n : Meaning) (s : ℕ) (at : ℕ → Sector) (p : Answer) (x : Sector) → m.sector s ≡ x → Lawful n → failed_by Sick p ≡ true
-    → ByFault (sick_fault x) (λ f. Refused f m p n) (Went m at (Accepted at n) p n) → (f : Fault) × (m.sector s ≡ sick f) × (p ≡ Err f)
-is_sick m n s at p (sick f) e k v c = (f, e, c.says)
-is_sick m n s at (Ok x) (held o w) e k v c = absurd (true_false (sym v))
-is_sick m n s at (Err f) (held o w) e k v c = absurd (true_false (sym (lost_says n f k c.so.power) ∙ one_cause (Err f) v))
+-- a read of the mirror, by how its sides' contents fill the buffer
+mirror_read : {a b a' b' : Meaning} {p q : Answer} {s : ℕ} {buffer buffer' : List ℕ} → Ready a s → Ready b s
+    → Side (Took a s a.sector p a') (buffer' ≡ buffer) a a.sector p a' → Side (Took b s b.sector q b') (buffer' ≡ buffer) b b.sector q b'
+    → Called (mirrored a b) s (mirrored a b).sector (joined p q (both_power a'.power b'.power)) (mirrored a' b')
+    → (Took a s a.sector p a' → Took b s b.sector q b' → buffer' ≡ filled (either_answer p q) (newest (either (a.sector s) (b.sector s))) buffer)
+    → Reads mirror_layer (mirrored a b) s buffer (joined p q (both_power a'.power b'.power)) (mirrored a' b') buffer'
+mirror_read {a} {b} {a'} {b'} {p} {q} {s} {buffer} {buffer'} ra rb h k c fills =
+    let r = joined p q (both_power a'.power b'.power) in
+    let new = newest (either (a.sector s) (b.sector s)) in
+    filled_read (standing mirror_layer (mirrored a b) s) (mirrored a b) (mirrored a' b')
+    (Went (mirrored a b) (mirrored a b).sector (Accepted (mirrored a b).sector (mirrored a' b')) r (mirrored a' b')) new buffer buffer' r
+    (mirror_called (mirrored a b) (mirrored a' b') s (mirrored a b).sector r (ready_stands a b s ra rb) c)
+    (joined_by (λ z. buffer' ≡ filled z new buffer) h k fills (λ g z l. l))
 
--- and one that does not is not
-is_well : (m n : Meaning) (s : ℕ) (at : ℕ → Sector) (p : Answer) (x : Sector) → LawfulSector x → failed_by Sick p ≡ false
-    → ByFault (sick_fault x) (λ f. Refused f m p n) (Went m at (Accepted at n) p n) → sick_fault x ≡ None
-is_well m n s at p (sick f) l v c = absurd (true_false (sym (sick_says f l).1 ∙ ap (failed_by Sick) (sym c.says) ∙ v))
-is_well m n s at p (held o w) l v c = refl
-
--- a side that was not asked
-same_side : {Lost : Type 0} (m n : Meaning) (s : ℕ) (q : Answer) → q ≡ Ok tt → n ≡ m → Side (Took m s m.sector q n) Lost m m.sector q n
-same_side m n s q e same = record {
-  size = ap (λ (v : Meaning). v.size) same;
-  worn = λ t. subst (λ (v : Meaning). Worn (m.sector t) (v.sector t)) (sym same) (worn_refl (m.sector t));
-  how = inl (
-    ap (failed_by PowerLost) e,
-    record {
-      answers = λ i. e;
-      kept = λ t. subst (λ (v : Meaning). Kept (m.sector t) (v.sector t)) (sym same) (kept_refl (m.sector t));
-    },
-  );
-}
-
-read_side : {Lost : Type 0} (m n : Meaning) (s : ℕ) (p : Answer) → LawfulSector (m.sector s) → Lawful n → (failed_by PowerLost p ≡ true → Lost)
-    → Called m s m.sector p n → Side (Took m s m.sector p n) Lost m m.sector p n
-read_side m n s p l k loses c = side m n s m.sector p l k (λ f e t. kept_refl (m.sector t)) loses c
-
--- a read of a mirror whose first side answers that it is sick
+-- the first side answers that it is sick
 read_second : (d e s : ℕ) (a b a' b' : Meaning) (buffer buffer' : List ℕ) (p q : Answer) → Ready a s → Ready b s
     → Lawful a → Lawful b → Lawful a' → Lawful b' → failed_by Sick p ≡ true
     → Reads d a s buffer p a' buffer → Reads e b s buffer q b' buffer'
     → Reads mirror_layer (mirrored a b) s buffer (joined p q (both_power a'.power b'.power)) (mirrored a' b') buffer'
 read_second d e s a b a' b' buffer buffer' p q ra rb la lb ka kb v da db =
-    let fa = read_filled (standing d a s) a a' (Went a a.sector (Accepted a.sector a') p a') (newest (a.sector s)) buffer buffer p da in
-    let fb = read_filled (standing e b s) b b' (Went b b.sector (Accepted b.sector b') q b') (newest (b.sector s)) buffer buffer' q db in
-    let ca = called d a a' s a.sector p ra fa.0 in
-    let cb = called e b b' s b.sector q rb fb.0 in
-    let sa : Side (Took a s a.sector p a') (buffer' ≡ buffer) a a.sector p a' =
-    read_side a a' s p (la.each s ra.range) ka (λ w. absurd (true_false (sym w ∙ one_cause p v))) ca in
-    let sb : Side (Took b s b.sector q b') (buffer' ≡ buffer) b b.sector q b' =
-    read_side b b' s q (lb.each s rb.range) kb (lost_filled q (newest (b.sector s)) buffer buffer' fb.1) cb in
-    let ill = is_sick a a' s a.sector p (a.sector s) refl ka v ca in
     let new = newest (either (a.sector s) (b.sector s)) in
-    let r = joined p q (both_power a'.power b'.power) in
-    filled_read (standing mirror_layer (mirrored a b) s) (mirrored a b) (mirrored a' b')
-    (Went (mirrored a b) (mirrored a b).sector (Accepted (mirrored a b).sector (mirrored a' b')) r (mirrored a' b')) new buffer buffer' r
-    (mirror_called (mirrored a b) (mirrored a' b') s (mirrored a b).sector r (ready_stands a b s ra rb)
-    (both_called s a b a' b' a.sector b.sector (mirrored a b).sector p q (a.sector s) (b.sector s) refl refl (la.each s ra.range) (lb.each s rb.range) sa sb (λ t. refl) ca cb))
-    (joined_by (λ z. buffer' ≡ filled z new buffer) a b a' b' a.sector b.sector p q sa sb
-    (λ x y. fb.1 ∙ ap (λ (z : List ℕ). filled q z buffer) (newest_second (a.sector s) (b.sector s) ill.0 ill.1) ∙ second_filled ill.0 q new buffer
+    let x = read_side {Lost = buffer' ≡ buffer} d a a' s buffer buffer p ra la ka (λ w i. absurd (true≢false (sym w ∙ one_cause p v))) da in
+    let y = read_side e b b' s buffer buffer' q rb lb kb (λ w i. lost_filled q (newest (b.sector s)) buffer buffer' i w) db in
+    let ill = is_sick a a' s a.sector p (a.sector s) refl ka v x.0.call in
+    mirror_read ra rb x.0.side y.0.side (both_called (mirrored a b).sector x.0 y.0 (λ t. refl))
+    (λ i j. y.1 ∙ ap (λ (z : List ℕ). filled q z buffer) (newest_second (a.sector s) (b.sector s) ill.0 ill.1) ∙ second_filled ill.0 q new buffer
     ∙ ap (λ (z : Answer). filled (either_answer z q) new buffer) (sym ill.2))
-    (λ g z l. l))
 
--- a read of a mirror whose first side does not
+-- the first side does not
 read_first : (d s : ℕ) (a b a' b' : Meaning) (buffer buffer' : List ℕ) (p q : Answer) → Ready a s → Ready b s
     → Lawful a → Lawful a' → failed_by Sick p ≡ false
     → Reads d a s buffer p a' buffer' → q ≡ Ok tt → b' ≡ b
     → Reads mirror_layer (mirrored a b) s buffer (joined p q (both_power a'.power b'.power)) (mirrored a' b') buffer'
 read_first d s a b a' b' buffer buffer' p q ra rb la ka v da e same =
-    let fa = read_filled (standing d a s) a a' (Went a a.sector (Accepted a.sector a') p a') (newest (a.sector s)) buffer buffer' p da in
-    let ca = called d a a' s a.sector p ra fa.0 in
-    let sa : Side (Took a s a.sector p a') (buffer' ≡ buffer) a a.sector p a' =
-    read_side a a' s p (la.each s ra.range) ka (lost_filled p (newest (a.sector s)) buffer buffer' fa.1) ca in
-    let sb : Side (Took b s b.sector q b') (buffer' ≡ buffer) b b.sector q b' = same_side b b' s q e same in
-    let well = is_well a a' s a.sector p (a.sector s) (la.each s ra.range) v ca in
     let new = newest (either (a.sector s) (b.sector s)) in
-    let r = joined p q (both_power a'.power b'.power) in
-    filled_read (standing mirror_layer (mirrored a b) s) (mirrored a b) (mirrored a' b')
-    (Went (mirrored a b) (mirrored a b).sector (Accepted (mirrored a b).sector (mirrored a' b')) r (mirrored a' b')) new buffer buffer' r
-    (mirror_called (mirrored a b) (mirrored a' b') s (mirrored a b).sector r (ready_stands a b s ra rb)
-    (one_called s a b a' b' a.sector b.sector (mirrored a b).sector p q sa sb (λ t. refl) (healthy_first (a.sector s) (b.sector s) well)))
-    (joined_by (λ z. buffer' ≡ filled z new buffer) a b a' b' a.sector b.sector p q sa sb
-    (λ x y. fa.1 ∙ ap (λ (z : Answer). filled z (newest (a.sector s)) buffer) (x.answers well) ∙ newest_first (a.sector s) (b.sector s) well
-    ∙ ap (λ (z : Answer). filled z new buffer) (sym (first_answers p q (x.answers well))))
-    (λ g z l. l))
+    let x = read_side d a a' s buffer buffer' p ra la ka (λ w i. lost_filled p (newest (a.sector s)) buffer buffer' i w) da in
+    let y : Side (Took b s b.sector q b') (buffer' ≡ buffer) b b.sector q b' = same_side b b' s q e same in
+    let well = is_well a a' a.sector p (a.sector s) x.0.law v x.0.call in
+    mirror_read ra rb x.0.side y (well_called (mirrored a b).sector x.0.side y (λ t. refl) (healthy_first (a.sector s) (b.sector s) well))
+    (λ i j. x.1 ∙ ap (λ (z : Answer). filled z (newest (a.sector s)) buffer) (i.answers well) ∙ newest_first (a.sector s) (b.sector s) well
+    ∙ ap (λ (z : Answer). filled z new buffer) (sym (first_answers p q (i.answers well))))
 
 -- a read of the mirror, by those of its sides
 pub read_joined : (d e : ℕ) (m n : Mirror Meaning Meaning) (s : ℕ) (buffer : List ℕ) (r : Answer) (buffer' : List ℕ) → LawfulSides m → LawfulSides n
@@ -385,22 +364,22 @@ read_joined d e m n s buffer r buffer' h k on did =
     subst (λ (v : Answer). Reads mirror_layer (mirrored m.first m.second) s buffer v (mirrored n.first n.second) buffer') (sym did.3)
     (split (failed_by Sick did.0)
     (λ v.
-    let both = subst (λ (b : Bool). Asked b) v did.2 in
+    let both = subst Did v did.2 in
     read_second d e s m.first m.second n.first n.second buffer buffer' did.0 did.1 ready.0 ready.1 h.0 h.1 k.0 k.1 v both.0 both.1)
     (λ v.
-    let one = subst (λ (b : Bool). Asked b) v did.2 in
+    let one = subst Did v did.2 in
     read_first d s m.first m.second n.first n.second buffer buffer' did.0 did.1 ready.0 ready.1 h.0 k.0 v one.0 one.1 one.2))
   where
-    Asked : Bool → Type 0
-    Asked b =
+    Did : Bool → Type 0
+    Did b =
         MatchBool b (Reads d m.first s buffer did.0 n.first buffer × Reads e m.second s buffer did.1 n.second buffer')
         (Reads d m.first s buffer did.0 n.first buffer' × (did.1 ≡ Ok tt) × (n.second ≡ m.second))
 
 -- write
 
-wrote_side : (s : ℕ) (m n : Meaning) (w : List ℕ) (p : Answer) → LawfulSector (m.sector s) → Lawful n → Called m s (written s w m.sector) p n
-    → Side (Took m s (written s w m.sector) p n) (Unit {0}) m (written s w m.sector) p n
-wrote_side s m n w p l k c = side m n s (written s w m.sector) p l k (kept_sick s w m) (λ e. tt) c
+if_ok : {P : Type 0} (r : Answer) → P → ByAnswer r P (λ f. Unit {0})
+if_ok (Ok x) h = h
+if_ok (Err f) h = tt
 
 -- a write to the mirror, by those to its sides
 pub write_joined : (d e : ℕ) (m n : Mirror Meaning Meaning) (s : ℕ) (w : List ℕ) (r : Answer) → LawfulSides m → LawfulSides n
@@ -411,19 +390,14 @@ write_joined d e m n s w r h k on did =
     let b = m.second in
     let a' = n.first in
     let b' = n.second in
-    let pa = written s w a.sector in
-    let pb = written s w b.sector in
+    let at = written s w (mirrored a b).sector in
     let ready = both_ready a b s on in
-    let la = h.0.each s ready.0.range in
-    let lb = h.1.each s ready.1.range in
-    let ca = called d a a' s pa did.0 ready.0 did.2.0 in
-    let cb = called e b b' s pb did.1 ready.1 did.2.1 in
-    let sa = wrote_side s a a' w did.0 la k.0 ca in
-    let sb = wrote_side s b b' w did.1 lb k.1 cb in
+    let x = asked {Lost = Unit {0}} d a a' s (written s w a.sector) did.0 ready.0 h.0 k.0 (kept_sick s w a) (λ e. tt) did.2.0 in
+    let y = asked {Lost = Unit {0}} e b b' s (written s w b.sector) did.1 ready.1 h.1 k.1 (kept_sick s w b) (λ e. tt) did.2.1 in
     subst (λ (v : Answer). Writes mirror_layer (mirrored a b) s w v (mirrored a' b') × EachWrote m s w v n) (sym did.3) (
-      mirror_called (mirrored a b) (mirrored a' b') s (written s w (mirrored a b).sector) (joined did.0 did.1 (both_power a'.power b'.power)) (ready_stands a b s ready.0 ready.1)
-          (both_called s a b a' b' pa pb (written s w (mirrored a b).sector) did.0 did.1 (a.sector s) (b.sector s) refl refl la lb sa sb (written_either s w a b) ca cb),
-      took_both s a b a' b' pa pb did.0 did.1 sa sb (λ x y. (x, y)),
+      mirror_called (mirrored a b) (mirrored a' b') s at (joined did.0 did.1 (both_power a'.power b'.power)) (ready_stands a b s ready.0 ready.1)
+          (both_called at x y (written_either s w a b)),
+      joined_by (λ v. EachWrote m s w v n) x.side y.side (λ i j. if_ok (either_answer did.0 did.1) (i.kept, j.kept)) (λ g e l. tt),
     )
 
 -- flush
@@ -440,17 +414,14 @@ pub flush_joined : (m n : Mirror Meaning Meaning) (r : Answer) → LawfulSides n
 flush_joined m n r k on did =
     let a = m.first in
     let b = m.second in
-    let a' = n.first in
-    let b' = n.second in
     let were = both_were_on a.power b.power (ap power_fault on) in
-    subst (λ (v : Answer). Flushes (mirrored a b) v (mirrored a' b')) (sym did.3)
-    (flushes_went (mirrored a b) (mirrored a' b') (joined did.0 did.1 (both_power a'.power b'.power)) on
-    (joined_went a b a' b' a.sector b.sector (mirrored a b).sector did.0 did.1
-    (flushed_side a a' did.0 k.0 were.0 did.2.0) (flushed_side b b' did.1 k.1 were.1 did.2.1) (λ t. refl)
-    (λ x y. (first_answers did.0 did.1 x.0, λ t. either_both (x.1 t) (y.1 t) ∙ either_settled (a.sector t) (b.sector t)))))
-  where
-    either_both : {x x' y y' : Sector} → x ≡ x' → y ≡ y' → either x y ≡ either x' y'
-    either_both h k = cc
+    subst (λ (v : Answer). Flushes (mirrored a b) v (mirrored n.first n.second)) (sym did.3)
+    (flushes_went (mirrored a b) (mirrored n.first n.second) (joined did.0 did.1 (both_power n.first.power n.second.power)) on
+    (joined_went (mirrored a b).sector (flushed_side a n.first did.0 k.0 were.0 did.2.0) (flushed_side b n.second did.1 k.1 were.1 did.2.1) (λ t. refl)
+    (λ x y. (
+      first_answers did.0 did.1 x.0,
+      λ t. ap (λ (v : Sector). either v (n.second.sector t)) (x.1 t) ∙ ap (either (settled (a.sector t))) (y.1 t) ∙ either_settled (a.sector t) (b.sector t),
+    ))))
 
 -- cut
 
