@@ -18,21 +18,6 @@ fn failed_by(cause: Cause, answer: Result<(), Fault>) -> bool
     answer.is_err_and(|fault| fault.cause == cause)
 }
 
-// What the mirror answers, by what each side answered and by the mirror's power after the call.
-fn joined(
-    first: Result<(), Fault>,
-    second: Result<(), Fault>,
-    power: Result<(), Fault>,
-) -> Result<(), Fault>
-    ensures { result ≡ joined first second power }
-{
-    if failed_by(Cause::PowerLost, first) || failed_by(Cause::PowerLost, second) {
-        power
-    } else {
-        raised(second.or(first))
-    }
-}
-
 // Two devices that hold the same.
 #[derive(Drop)]
 pub struct Mirror<D, E> {
@@ -66,6 +51,17 @@ impl<D: Device, E: Device> Mirror<D, E> {
         self.power()
     }
 
+    // What the mirror answers after a call, by what each side answered.
+    fn answer(&self, first: Result<(), Fault>, second: Result<(), Fault>) -> Result<(), Fault>
+        ensures { result ≡ joined first second (mirror_meaning D.Device.meaning E.Device.meaning self.now).power }
+    {
+        if failed_by(Cause::PowerLost, first) || failed_by(Cause::PowerLost, second) {
+            self.power()
+        } else {
+            raised(second.or(first))
+        }
+    }
+
     // Reads the first side, or the second where the first is sick.
     fn read_either(&mut self, sector: u32, buffer: &mut [u8; 512]) -> Result<(), Fault>
         ensures sides { EitherFetched (λ a. a) (λ b. b) (Reads D.Device.layer) (Reads E.Device.layer) (sides_of D.Device.meaning E.Device.meaning self.old) sector buffer.old result (sides_of D.Device.meaning E.Device.meaning self.new) buffer.new }
@@ -73,10 +69,10 @@ impl<D: Device, E: Device> Mirror<D, E> {
     {
         let first = self.first.read(sector, buffer);
         if !failed_by(Cause::Sick, first) {
-            return joined(first, Ok(()), self.power());
+            return self.answer(first, Ok(()));
         }
         let second = self.second.read(sector, buffer);
-        joined(first, second, self.power())
+        self.answer(first, second)
     }
 
     // Writes to both sides.
@@ -86,7 +82,7 @@ impl<D: Device, E: Device> Mirror<D, E> {
     {
         let first = self.first.write(sector, content);
         let second = self.second.write(sector, content);
-        joined(first, second, self.power())
+        self.answer(first, second)
     }
 
     // Flushes both sides.
@@ -96,7 +92,7 @@ impl<D: Device, E: Device> Mirror<D, E> {
     {
         let first = self.first.flush();
         let second = self.second.flush();
-        joined(first, second, self.power())
+        self.answer(first, second)
     }
 }
 
