@@ -129,21 +129,13 @@ kind_back Trailer = refl
 kind_back Withdrawal = refl
 kind_back Opening = refl
 
-kind_low : (k : Kind) → 1 ≤ kind_number k
-kind_low Header = omega arith
-kind_low Begin = omega arith
-kind_low Block = omega arith
-kind_low Trailer = omega arith
-kind_low Withdrawal = omega arith
-kind_low Opening = omega arith
-
-kind_high : (k : Kind) → kind_number k ≤ 6
-kind_high Header = omega arith
-kind_high Begin = omega arith
-kind_high Block = omega arith
-kind_high Trailer = omega arith
-kind_high Withdrawal = omega arith
-kind_high Opening = omega arith
+kind_known : (k : Kind) → IsKindNumber (kind_number k)
+kind_known Header = (omega arith, omega arith)
+kind_known Begin = (omega arith, omega arith)
+kind_known Block = (omega arith, omega arith)
+kind_known Trailer = (omega arith, omega arith)
+kind_known Withdrawal = (omega arith, omega arith)
+kind_known Opening = (omega arith, omega arith)
 
 made : (f : Fields) (k : Kind) (t n s p e m a b : ℕ) → k ≡ f.kind → t ≡ f.track → n ≡ f.count → s ≡ f.sitting → p ≡ f.place → e ≡ f.epoch → m ≡ f.take → a ≡ f.a
     → b ≡ f.b → (record { kind = k; track = t; count = n; sitting = s; place = p; epoch = e; take = m; a = a; b = b }) ≡ f
@@ -194,24 +186,17 @@ first_byte f p = refl
 pub known_put : (f : Fields) (rest t : List ℕ) → take 508 t ≡ field_bytes f ++ rest → IsKindNumber (get_or t 0 0)
 unfolding field_bytes
 known_put f rest t e =
-    let b : get_or t 0 0 ≡ kind_number f.kind = sym (get_or-take 508 t 0 0 (omega arith)) ∙ ap (λ (x : List ℕ). get_or x 0 0) e in
-    let low = kind_low f.kind in
-    let high = kind_high f.kind in
-    (omega arith, omega arith)
+    subst IsKindNumber (sym (ap (λ (x : List ℕ). get_or x 0 0) e) ∙ get_or-take 508 t 0 0 (omega arith)) (kind_known f.kind)
 
 -- the first byte is no kind's number
-pub no_kind : (s : List ℕ) → (IsKindNumber (get_or s 0 0) → ⊥) → NoRecord s
+no_kind : (s : List ℕ) → (IsKindNumber (get_or s 0 0) → ⊥) → NoRecord s
 no_kind s h = (
   λ sound. h (sound.low, sound.high),
-  λ f p fits e.
-      let b : get_or s 0 0 ≡ kind_number f.kind = ap (λ (x : List ℕ). get_or x 0 0) e ∙ first_byte f p in
-      let low = kind_low f.kind in
-      let high = kind_high f.kind in
-      h (omega arith, omega arith),
+  λ f p fits e. h (subst IsKindNumber (sym (ap (λ (x : List ℕ). get_or x 0 0) e ∙ first_byte f p)) (kind_known f.kind)),
 )
 
 -- the last four bytes are not the check
-pub not_sealed : (s : List ℕ) → (s ≡ sealed (take 508 s) → ⊥) → NoRecord s
+not_sealed : (s : List ℕ) → (s ≡ sealed (take 508 s) → ⊥) → NoRecord s
 not_sealed s h = (λ sound. h sound.checked, λ f p fits e. h (e ∙ ap sealed (sym (body_is s f p fits e))))
 
 -- the test of the check

@@ -1,9 +1,10 @@
 -- Several bytes at once: the register after them is a sum, by exclusive or, of steps of each.
-use Rattle.std.proofs.Common.{◌≡◌, ℕ, zero, suc, ◌+◌, ◌*◌, ◌/◌, ◌%◌, ◌<◌, ◌≤◌, ◌-◌, List, [], ◌∷◌, ◌++◌, length, length-drop, drop, get_or, sym, refl, ap, ◌∙◌, ap₂, ◌^◌, add_comm, div-add-mod', arith}
+use Rattle.std.proofs.Common.{◌≡◌, ℕ, zero, suc, ◌+◌, ◌*◌, ◌/◌, ◌%◌, ◌<◌, ◌≤◌, ◌-◌, List, [], ◌∷◌, ◌++◌, length, length-drop, drop, get_or, sym, refl, ap, ◌∙◌, ap₂, ◌^◌, div-add-mod', arith}
 use lib.Bits.{bit_xor, xor_comm, xor_assoc, xor_zero_l, xor_zero_r, xor_shifted}
 use Rattle.std.proofs.lemmas.List.{at_drop_more, at_drop_all}
+use Rattle.std.specs.Simd.Lanes.{number_l, digits_l}
 use Rattle.little_endian.specs.Little.{Bytes}
-use Rattle.little_endian.proofs.Little.{little, number, number_little, length_little, bytes_little}
+use Rattle.little_endian.proofs.Little.{number_little, length_little, bytes_little}
 use Rattle.sector.specs.Crc.{steps, register}
 use Rattle.sector.proofs.Linear.{steps_xor, steps_shift, steps_add}
 
@@ -67,19 +68,20 @@ aside : (c l b : ℕ) → bit_xor c (bit_xor l b) ≡ bit_xor (bit_xor c b) l
 aside c l b = ap (bit_xor c) (xor_comm l b) ∙ sym (xor_assoc c b l)
 
 -- to take bytes in is to take in their number
-pub register_number : (bs : List ℕ) (c : ℕ) → Bytes bs → register c bs ≡ steps (bits (length bs) 0) (bit_xor c (number bs))
+pub register_number : (bs : List ℕ) (c : ℕ) → Bytes bs → register c bs ≡ steps (bits (length bs) 0) (bit_xor c (number_l 256 bs))
 unfolding register steps
 register_number [] c h = sym (xor_zero_r c)
 register_number (b ∷ bs) c h =
+    let n : ℕ = number_l 256 bs in
     register_number bs (steps 8 (bit_xor c b)) (λ i. h (suc i))
     ∙ ap (steps (bits (length bs) 0))
-    (ap (bit_xor (steps 8 (bit_xor c b))) (sym (steps_shift 8 (number bs)))
-    ∙ sym (steps_xor 8 (bit_xor c b) (number bs * 256))
-    ∙ ap (steps 8) (sym (aside c (number bs * 256) b) ∙ ap (bit_xor c) (xor_shifted (number bs) 8 b (h 0) ∙ add_comm (number bs * 256) b)))
-    ∙ sym (steps_add 8 (bits (length bs) 0) (bit_xor c (b + number bs * 256)))
+    (ap (bit_xor (steps 8 (bit_xor c b))) (sym (steps_shift 8 n))
+    ∙ sym (steps_xor 8 (bit_xor c b) (n * 256))
+    ∙ ap (steps 8) (sym (aside c (n * 256) b) ∙ ap (bit_xor c) (xor_shifted n 8 b (h 0) ∙ omega arith)))
+    ∙ sym (steps_add 8 (bits (length bs) 0) (bit_xor c (b + 256 * n)))
 
 -- the register after the bytes of a number, from 0
-pub register_little : (k z : ℕ) → z < 256 ^ k → register 0 (little k z) ≡ steps (bits k 0) z
+pub register_little : (k z : ℕ) → z < 256 ^ k → register 0 (digits_l 256 k z) ≡ steps (bits k 0) z
 register_little k z h =
-    register_number (little k z) 0 (bytes_little k z)
-    ∙ ap₂ (λ (n x : ℕ). steps (bits n 0) x) (length_little k z) (xor_zero_l (number (little k z)) ∙ number_little k z h)
+    register_number (digits_l 256 k z) 0 (bytes_little k z)
+    ∙ ap₂ (λ (n x : ℕ). steps (bits n 0) x) (length_little k z) (xor_zero_l (number_l 256 (digits_l 256 k z)) ∙ number_little k z h)
