@@ -34,10 +34,10 @@ impl fmt::Display for Sound {
         } = *self;
         let noun = if count == 1 { "sample" } else { "samples" };
         let seconds = milliseconds / 1000;
-        let rest = milliseconds % 1000;
+        let thousandths = milliseconds % 1000;
         write!(
             f,
-            "{rate} Hz, {count} {noun}, {seconds}.{rest:03} s, peak {peak}"
+            "{rate} Hz, {count} {noun}, {seconds}.{thousandths:03} s, peak {peak}"
         )
     }
 }
@@ -51,6 +51,7 @@ enum Problem {
     Unreadable(io::Error),
 }
 
+// A file that was read and refused.
 impl From<Refusal> for Problem {
     ghost from_gives = { λ refusal problem. problem ≡ Refused refusal };
 
@@ -59,6 +60,7 @@ impl From<Refusal> for Problem {
     }
 }
 
+// A file that was not read.
 impl From<io::Error> for Problem {
     ghost from_gives = { λ error problem. problem ≡ Unreadable error };
 
