@@ -34,3 +34,8 @@ FlushWent m r n = Went m m.sector ((t : ℕ) → n.sector t ≡ settled (m.secto
 
 pub flushes_went : (m n : Meaning) (r : Answer) → m.power ≡ Ok tt → FlushWent m r n → Flushes m r n
 flushes_went m n r e w = by_none (λ f. Refused f m r n) (FlushWent m r n) (power_fault m.power) (ap power_fault e) w
+
+pub flushed_went : (m n : Meaning) (r : Answer) → m.power ≡ Ok tt → Flushes m r n → FlushWent m r n
+flushed_went m n r e w =
+    let P : Answer → Type 0 = λ p. ByFault (power_fault p) (λ f. Refused f m r n) (FlushWent m r n) in
+    subst P e w

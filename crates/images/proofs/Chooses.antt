@@ -1,5 +1,6 @@
 -- What a cut leaves of a queued image.
-use Rattle.std.proofs.Common.{◌≡◌, ℕ, suc, ◌+◌, Bool, true, false, cond, eqb, ltb, List, [], ◌∷◌, length, get_or, replicate, Some, None, Option, slice_get, unwrap_or, Bor, sym, refl, ap, ◌∙◌, arith, eqb-true, Ok}
+use Rattle.std.proofs.Common.{◌≡◌, ℕ, suc, ◌+◌, Bool, true, false, cond, eqb, ltb, List, [], ◌∷◌, length, get_or, replicate, Some, None, Option, slice_get, unwrap_or, Bor, sym, refl, ap, ◌∙◌, arith, eqb-true, Ok, ⊎_elim}
+use Rattle.std.proofs.lemmas.Bool.{cases_Bool}
 use mathlib.Core.Path.{fun_ext}
 use Rattle.std.specs.Option.{option_copied}
 use Rattle.std.proofs.lemmas.Grind.{common_steps}
@@ -8,7 +9,6 @@ use Rattle.device.specs.Faults.{sick_at}
 use Rattle.device.specs.Meaning.{Sector, sick, held, contents}
 use Rattle.device.specs.Calls.{sick_fault}
 use Rattle.device.specs.Cuts.{chosen, cut_by}
-use Rattle.device.proofs.Steps.{split}
 use Rattle.images.specs.declared.queue.WaitingWrite.{WaitingWrite}
 use Rattle.images.specs.Sectors.{whole, content, is_sick}
 use Rattle.images.specs.Image.{waiting_for, older, listed, sector_of, image_meaning}
@@ -60,9 +60,9 @@ left_other c k x y (z ∷ zs) e h = let p : suc k ≡ c = omega arith in ap (λ 
 -- where a sector is left as it is, its content is what is left
 pub same_left : (f : ℕ → List ℕ) (s : ℕ) (b : List ℕ) → f s ≡ b → (t : ℕ) → f t ≡ cond (eqb t s) b (f t)
 same_left f s b h t =
-    split (eqb t s)
+    ⊎_elim
     (λ q. ap f (eqb-true t s q) ∙ h ∙ sym (ap (λ (v : Bool). cond v b (f t)) q))
-    (λ q. sym (ap (λ (v : Bool). cond v b (f t)) q))
+    (λ q. sym (ap (λ (v : Bool). cond v b (f t)) q)) (cases_Bool (eqb t s))
 
 -- one more sector is as the plan says
 pub left_more : (left old now next : ℕ → List ℕ) (s : ℕ) → ((t : ℕ) → now t ≡ cond (ltb t s) (left t) (old t)) → ((t : ℕ) → next t ≡ cond (eqb t s) (left s) (now t))

@@ -1,5 +1,6 @@
 -- Sectors of bytes, and what stands in the way of a read or a write of an image.
 use Rattle.std.proofs.Common.{◌≡◌, ℕ, ◌+◌, ◌-◌, ◌*◌, ◌/◌, ◌<◌, ◌≤◌, min, Bool, true, false, cond, eqb, ltb, List, [], ◌∷◌, length, take, drop, Some, None, Ok, Err, Option, sym, refl, ap, ◌∙◌, ⊎_elim, arith, length-append, length-drop, length-take, length-take-le, take_at, drop_at, eqb-true}
+use Rattle.std.proofs.lemmas.Bool.{cases_Bool, cases_order}
 use borrow.Author.Tests.{eqb-false}
 use Rattle.std.proofs.lemmas.Slice.{between_is, take-put_mid_below, drop-put_mid}
 use Rattle.device.specs.declared.fault.Fault.{Fault}
@@ -7,7 +8,7 @@ use Rattle.device.specs.Faults.{Answer, out_of_range, sick_at}
 use Rattle.device.specs.Meaning.{Sector, sick, held, newest}
 use Rattle.device.specs.Calls.{Reads, standing, sick_fault}
 use Rattle.device.proofs.Lists.{kept_refl}
-use Rattle.device.proofs.Steps.{split, apart, reads_went}
+use Rattle.device.proofs.Steps.{reads_went}
 use Rattle.images.specs.declared.queue.WaitingWrite.{WaitingWrite}
 use Rattle.images.specs.Sectors.{whole, content, over, is_sick, refusal}
 use Rattle.images.specs.declared.sectors.Sectors.{Sectors}
@@ -35,9 +36,9 @@ over_before bytes b s t h l lt =
 -- one sector is replaced, and no other changes
 pub over_at : (bytes b : List ℕ) (s t : ℕ) → 512 * s + 512 ≤ length bytes → length b ≡ 512 → content (over bytes s b) t ≡ cond (eqb t s) b (content bytes t)
 over_at bytes b s t h l =
-    split (eqb t s)
+    ⊎_elim
     (λ e. ap (content (over bytes s b)) (eqb-true t s e) ∙ over_same bytes b s h l ∙ sym (ap (λ (v : Bool). cond v b (content bytes t)) e))
-    (λ e. ⊎_elim (over_before bytes b s t h l) (over_after bytes b s t h l) (apart t s (eqb-false t s e)) ∙ sym (ap (λ (v : Bool). cond v b (content bytes t)) e))
+    (λ e. ⊎_elim (λ z. absurd (eqb-false t s e z)) (⊎_elim (over_before bytes b s t h l) (over_after bytes b s t h l)) (cases_order t s) ∙ sym (ap (λ (v : Bool). cond v b (content bytes t)) e)) (cases_Bool (eqb t s))
 
 pub whole_same : (bytes bytes' : List ℕ) → length bytes' ≡ length bytes → whole bytes' ≡ whole bytes
 whole_same bytes bytes' h = ap (λ (k : ℕ). min (k / 512) 65536) h

@@ -1,5 +1,6 @@
 -- What reads, writes and flushes of a queued image do to its lists.
-use Rattle.std.proofs.Common.{◌≡◌, ℕ, ◌+◌, ◌*◌, ◌<◌, ◌≤◌, Bool, true, false, cond, eqb, ltb, List, [], ◌∷◌, ◌++◌, reverse, length, Some, None, Ok, Option, sym, refl, ap, ◌∙◌, subst, append-nil, arith, ltb-false, ltb-true, lt-ltb, ne_eqb, eqb-true, unwrap_or}
+use Rattle.std.proofs.Common.{◌≡◌, ℕ, ◌+◌, ◌*◌, ◌<◌, ◌≤◌, Bool, true, false, cond, eqb, ltb, List, [], ◌∷◌, ◌++◌, reverse, length, Some, None, Ok, Option, sym, refl, ap, ◌∙◌, subst, append-nil, arith, ltb-false, ltb-true, lt-ltb, ne_eqb, eqb-true, unwrap_or, ⊎_elim}
+use Rattle.std.proofs.lemmas.Bool.{cases_Bool}
 use Rattle.std.proofs.lemmas.List.{reverse-append, reverse-reverse}
 use Rattle.std.specs.List.{find}
 use Rattle.std.specs.Option.{option_map}
@@ -9,7 +10,7 @@ use Rattle.device.specs.Faults.{sick_at}
 use Rattle.device.specs.Meaning.{Sector, sick, held, newest}
 use Rattle.device.specs.Calls.{Writes, Flushes, Kept, sick_fault, written, added, settled}
 use Rattle.device.proofs.Lists.{remains_more, kept_refl, kept_worn}
-use Rattle.device.proofs.Steps.{split, writes_went, flushes_went}
+use Rattle.device.proofs.Steps.{writes_went, flushes_went}
 use Rattle.images.specs.declared.queue.WaitingWrite.{WaitingWrite}
 use Rattle.images.specs.Full.{all_full}
 use Rattle.images.specs.Sectors.{whole, content, over, is_sick}
@@ -60,20 +61,20 @@ settle_length : (bytes : List ℕ) (queue : List WaitingWrite) → all_full queu
 settle_length bytes [] h = refl
 settle_length bytes (w ∷ queue) h =
     let l = full_first w queue h in
-    split (ltb w.sector (whole bytes))
+    ⊎_elim
     (λ e. let lt : w.sector < whole bytes = ltb-true _ _ e in let k : 512 * w.sector + 512 ≤ length bytes = omega arith in
     ap (λ (b : Bool). length (cond b (over bytes w.sector w.content) bytes)) e ∙ over_length bytes w.content w.sector k l)
-    (λ e. ap (λ (b : Bool). length (cond b (over bytes w.sector w.content) bytes)) e)
+    (λ e. ap (λ (b : Bool). length (cond b (over bytes w.sector w.content) bytes)) e) (cases_Bool (ltb w.sector (whole bytes)))
 
 settle_content : (bytes : List ℕ) (w : WaitingWrite) (queue : List WaitingWrite) (t : ℕ) → length w.content ≡ 512 → ltb t (whole bytes) ≡ true
     → content (settle_oldest bytes (w ∷ queue)) t ≡ cond (eqb t w.sector) w.content (content bytes t)
 settle_content bytes w queue t l i =
     let lt : t < whole bytes = ltb-true _ _ i in
-    split (ltb w.sector (whole bytes))
+    ⊎_elim
     (λ e. let lt2 : w.sector < whole bytes = ltb-true _ _ e in let k : 512 * w.sector + 512 ≤ length bytes = omega arith in
     ap (λ (b : Bool). content (cond b (over bytes w.sector w.content) bytes) t) e ∙ over_at bytes w.content w.sector t k l)
     (λ e. let ge : whole bytes ≤ w.sector = ltb-false _ _ e in let ne : ¬ (t ≡ w.sector) = (λ z. omega arith) in
-    ap (λ (b : Bool). content (cond b (over bytes w.sector w.content) bytes) t) e ∙ sym (ap (λ (b : Bool). cond b w.content (content bytes t)) (ne_eqb t w.sector ne)))
+    ap (λ (b : Bool). content (cond b (over bytes w.sector w.content) bytes) t) e ∙ sym (ap (λ (b : Bool). cond b w.content (content bytes t)) (ne_eqb t w.sector ne))) (cases_Bool (ltb w.sector (whole bytes)))
 
 settle_lists : (layer : ℕ) (sick_ones : List (Option ℕ)) (bytes : List ℕ) (queue : List WaitingWrite) (t : ℕ) → all_full queue ≡ true
     → image_sector layer sick_ones (settle_oldest bytes queue) (without_oldest queue) t ≡ settled_oldest queue (image_sector layer sick_ones bytes queue) t

@@ -1,5 +1,6 @@
 -- Lists of waiting writes: one more, one less, and those of one sector.
-use Rattle.std.proofs.Common.{◌≡◌, ℕ, Bool, true, false, cond, ◌&&◌, eqb, List, [], ◌∷◌, ◌++◌, map, reverse, length, Some, None, sym, refl, ap, ◌∙◌, subst, eq-eqb, eqb-true}
+use Rattle.std.proofs.Common.{◌≡◌, ℕ, Bool, true, false, cond, ◌&&◌, eqb, List, [], ◌∷◌, ◌++◌, map, reverse, length, Some, None, sym, refl, ap, ◌∙◌, subst, eq-eqb, eqb-true, ⊎_elim}
+use Rattle.std.proofs.lemmas.Bool.{cases_Bool}
 use Rattle.std.specs.Prelude.{filter, slice_get}
 use Rattle.std.specs.Borrow.{Bor}
 use Rattle.std.specs.VecDeque.Iter.{deque_iter_steps_back, deque_iter_rest}
@@ -10,7 +11,6 @@ use Rattle.std.proofs.lemmas.Iterator.Consumers.{YieldsList-from_shown}
 use Rattle.std.specs.Option.{option_map}
 use Rattle.device.specs.Meaning.{Sector, sick, held}
 use Rattle.device.specs.Calls.{added}
-use Rattle.device.proofs.Steps.{split}
 use Rattle.std.proofs.Math.Bool.{and-eq-true_iff}
 use Rattle.images.specs.declared.queue.WaitingWrite.{WaitingWrite}
 use Rattle.images.specs.Full.{all_full}
@@ -37,7 +37,7 @@ waiting_more s (v ∷ queue) w = waiting_cons (eqb s v.sector) v.content (waitin
 -- the contents that wait for a sector are those of the writes to it
 pub waiting_filter : (s : ℕ) (queue : List WaitingWrite) → map (λ w. w.content) (filter (λ w. eqb s w.sector) queue) ≡ waiting_for s queue
 waiting_filter s [] = refl
-waiting_filter s (w ∷ queue) = split (eqb s w.sector) (λ e. rw e (ap (λ (z : List (List ℕ)). w.content ∷ z) (waiting_filter s queue))) (λ e. rw e (waiting_filter s queue))
+waiting_filter s (w ∷ queue) = ⊎_elim (λ e. rw e (ap (λ (z : List (List ℕ)). w.content ∷ z) (waiting_filter s queue))) (λ e. rw e (waiting_filter s queue)) (cases_Bool (eqb s w.sector))
 
 pub waiting_at : (s k : ℕ) (queue : List WaitingWrite) → option_map (λ w. w.content) (slice_get (filter (λ w. eqb s w.sector) queue) k) ≡ slice_get (waiting_for s queue) k
 waiting_at s k queue = sym (slice_get-map (λ w. w.content) (filter (λ w. eqb s w.sector) queue) k) ∙ ap (λ (z : List (List ℕ)). slice_get z k) (waiting_filter s queue)

@@ -52,6 +52,7 @@ impl<'a> Sectors<'a> {
         let start = 512 * sector as usize;
         self.bytes[start..start + 512].copy_from_slice(content);
     }
+
     // Settles the write; one past the last whole sector settles nowhere.
     pub fn settle(&mut self, write: &WaitingWrite)
         ensures { Rewrites self.old (settle_write self.old.bytes.now write.now) self.new }

@@ -1,5 +1,6 @@
 -- From what a call did to each side to what it did to the mirror.
-use Rattle.std.proofs.Common.{◌≡◌, ℕ, ◌<◌, Bool, true, false, cond, nat_lt, ◌⊎◌, List, Some, None, Ok, Err, Option, ◌==◌, sym, refl, ap, ◌∙◌, subst, inl, inr, arith, eqb-true, ltb-true, true≢false}
+use Rattle.std.proofs.Common.{◌≡◌, ℕ, ◌<◌, Bool, true, false, cond, nat_lt, ◌⊎◌, List, Some, None, Ok, Err, Option, ◌==◌, sym, refl, ap, ◌∙◌, subst, inl, inr, arith, eqb-true, ltb-true, true≢false, ⊎_elim}
+use Rattle.std.proofs.lemmas.Bool.{cases_Bool}
 use Rattle.std.specs.Prelude.{MatchBool}
 use Rattle.device.specs.declared.fault.Cause.{Cause}
 use Rattle.device.specs.declared.fault.Cause.TheVariants.{Sick, PowerLost}
@@ -9,7 +10,7 @@ use Rattle.device.specs.Meaning.{Sector, sick, held, Meaning, newest, Lawful, La
 use Rattle.device.specs.Calls.{ByAnswer, ByFault, Reads, Writes, Flushes, Kept, Worn, Refused, Went, Accepted, answer_of, filled, power_fault, sick_fault, standing, settled, written}
 use Rattle.device.specs.Cuts.{Cut}
 use Rattle.device.proofs.Lists.{kept_refl, worn_refl, kept_worn, settled_kept}
-use Rattle.device.proofs.Steps.{standing_is, by_none, by_some, flushes_went, flushed_went, split}
+use Rattle.device.proofs.Steps.{standing_is, by_none, by_some, flushes_went, flushed_went}
 use Rattle.layers.specs.declared.mirror.Mirror.{Mirror}
 use Rattle.layers.specs.Mirrored.{either, both_power, mirrored, mirror_layer}
 use Rattle.layers.specs.Sides.{failed_by, either_answer, joined, mirror_stands, EitherFetched, BothWrote, BothFlushed, EachWrote}
@@ -362,13 +363,13 @@ pub read_joined : (d e : ℕ) (m n : Mirror Meaning Meaning) (s : ℕ) (buffer :
 read_joined d e m n s buffer r buffer' h k on did =
     let ready = both_ready m.first m.second s on in
     subst (λ (v : Answer). Reads mirror_layer (mirrored m.first m.second) s buffer v (mirrored n.first n.second) buffer') (sym did.3)
-    (split (failed_by Sick did.0)
+    (⊎_elim
     (λ v.
     let both = subst Did v did.2 in
     read_second d e s m.first m.second n.first n.second buffer buffer' did.0 did.1 ready.0 ready.1 h.0 h.1 k.0 k.1 v both.0 both.1)
     (λ v.
     let one = subst Did v did.2 in
-    read_first d s m.first m.second n.first n.second buffer buffer' did.0 did.1 ready.0 ready.1 h.0 k.0 v one.0 one.1 one.2))
+    read_first d s m.first m.second n.first n.second buffer buffer' did.0 did.1 ready.0 ready.1 h.0 k.0 v one.0 one.1 one.2) (cases_Bool (failed_by Sick did.0)))
   where
     Did : Bool → Type 0
     Did b =

@@ -120,7 +120,8 @@ impl<D: Device> Device for Fuse<D> {
     fn power(&self) -> Result<(), Fault>
         ensures { result ≡ fused_power self.now.counter (D.Device.meaning self.now.inner).power }
     {
-        self.counter.power().and(raised(self.inner.power()))
+        let own = self.counter.power();
+        own.and_then(|()| raised(self.inner.power()))
     }
 
     fn read(&mut self, sector: u32, buffer: &mut [u8; 512]) -> Result<(), Fault>

@@ -27,7 +27,8 @@ pub fn crc32(bytes: &[u8]) -> u32
 // The check of the text "123456789", as catalogues of such checks print it: a fact of the definition.
 #[tactic(auto, unfolding(crate::specs::Crc::step, crate::specs::Crc::steps, crate::specs::Crc::register))]
 pub fn published_check() -> u32
-    ensures { result ≡ crc32 (codes "123456789") }
+    ensures value { result ≡ 0xCBF43926 }
+    ensures check { result ≡ crc32 (codes "123456789") }
 {
     0xCBF4_3926
 }

@@ -3,8 +3,7 @@ ghost use Rattle.std.specs.Prelude.{◌≡◌, ℕ, ◌+◌, ◌≤◌, List, �
 ghost use Rattle.sector.specs.Layout.{kind_number, IsKindNumber, Decodes, field_bytes, sealed, sector_bytes, payload_of, Fits, Sound, NoRecord, Gives};
 
 use crate::crc::crc32;
-use std::error::Error;
-use std::fmt;
+use thiserror::Error;
 
 // What a sector records.
 #[derive(Clone, Copy, PartialEq, Eq, Debug)]
@@ -27,7 +26,8 @@ impl From<Kind> for u8 {
 }
 
 // A number that stands for no kind.
-#[derive(Clone, Copy, PartialEq, Eq, Debug)]
+#[derive(Clone, Copy, PartialEq, Eq, Debug, Error)]
+#[error("no kind of sector has number {0}")]
 pub struct UnknownKind(pub u8);
 
 // The kind that a stored number stands for.
@@ -48,14 +48,6 @@ impl TryFrom<u8> for Kind {
         }
     }
 }
-
-impl fmt::Display for UnknownKind {
-    fn fmt<W: fmt::Write>(&self, f: &mut fmt::Formatter<W>) -> fmt::Result {
-        write!(f, "no kind of sector has the number {}", self.0)
-    }
-}
-
-impl Error for UnknownKind {}
 
 // The numbers of a sector, in the order in which they are stored. What `a` and `b` say depends on the kind.
 #[derive(Clone, Copy, PartialEq, Eq, Debug)]
