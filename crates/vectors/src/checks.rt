@@ -50,6 +50,7 @@ mod tests {
     fn every_length(rt: HostRuntime) -> Result<(), Fail> {
         let mut bytes = Vec::new(rt.alloc());
         let mut folded = crc32(&bytes);
+        // The index stays: each byte is made of its own place.
         for i in 0..600u32 {
             bytes.push(((i * 7919 + i / 13) & 0xFF) as u8)?;
             folded = folded.rotate_left(5) ^ crc32(&bytes);

@@ -1,7 +1,7 @@
 // Sectors whose bytes were laid out by Python's `struct` and whose checks were computed by zlib.
 #[cfg(test)]
 mod tests {
-    use sector::{Fields, Kind, Record, decode, encode, seal};
+    use sector::{Fields, Kind, Record, UnknownKind, decode, encode, seal};
     use std::test::Fail;
 
     // A block of the samples 10, -20 and 30.
@@ -51,17 +51,13 @@ mod tests {
 
     // The stored check, as a number.
     fn stored_check(sector: &[u8; 512]) -> u32 {
-        u32::from_le_bytes([sector[508], sector[509], sector[510], sector[511]])
+        u32::from_le_bytes(*sector.last_chunk().unwrap())
     }
 
     // Stores a kind and a check in the place of those that are there.
     fn forge(sector: &mut [u8; 512], kind: u8, check: u32) {
-        let bytes = check.to_le_bytes();
         sector[0] = kind;
-        sector[508] = bytes[0];
-        sector[509] = bytes[1];
-        sector[510] = bytes[2];
-        sector[511] = bytes[3];
+        sector[508..].copy_from_slice(&check.to_le_bytes());
     }
 
     #[test]
@@ -108,9 +104,19 @@ mod tests {
     }
 
     #[test]
+    fn an_unknown_kind_is_told_by_its_number(rt: HostRuntime) -> Result<(), Fail> {
+        assert_eq!(rt; Kind::try_from(u8::from(Kind::Opening)), Ok(Kind::Opening));
+        assert_eq!(rt; Kind::try_from(7), Err(UnknownKind(7)));
+        let text = format!(in rt.alloc(); "{}", UnknownKind(7))?;
+        assert!(rt; text.as_str() == "no kind of sector has the number 7");
+        Ok(())
+    }
+
+    #[test]
     fn every_damaged_byte_is_noticed(rt: HostRuntime) {
         let mut sector = [0; 512];
         block(&mut sector);
+        // The index stays: while one byte is damaged the whole sector is decoded, so no reference to the byte can last.
         for i in 0..512 {
             sector[i] ^= 0x40;
             assert!(rt; decode(&sector).is_none());
