@@ -1,1 +1,2 @@
 pub mod Unpacks
+pub mod Tested

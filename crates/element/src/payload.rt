@@ -13,6 +13,7 @@ use thiserror::Error;
 pub struct NoRoom;
 
 // The lawful element that has these bytes, if there is one.
+#[tactic(auto, using(crate::proofs::Tested::by_test))]
 pub fn parse<E: Element>(bytes: &[u8]) -> Option<E>
     ensures { MatchOption result ((x : E) → E.Element.lawful x ≡ true → E.Element.bytes x ≢ bytes.now) (λ x. (E.Element.lawful x ≡ true) × (E.Element.bytes x ≡ bytes.now)) }
 {

@@ -11,6 +11,7 @@ loop-i-preserved g c =
     let wide : length c.put.new.out ≡ w = search arith in
     let within : at + w ≤ length c.loop-i.payload = search arith in
     record {
+      fits = c.loop-i.invariant.fits;
       written = rw (take-put_mid at (at + w - at) c.loop-i.payload c.put.new.out ((c.loop-i.i + 1) * w) (omega arith) (omega arith)) (grind (arith, common_steps));
       kept = grind (arith, drop-put_mid at (at + w - at) c.loop-i.payload c.put.new.out ((c.loop-i.i + 1) * w) (omega arith) (omega arith) (omega arith), drop-drop w at c.loop-i.payload, drop-drop w at c.args.payload.now);
     }
