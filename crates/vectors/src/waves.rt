@@ -1,6 +1,7 @@
 // WAVE files as Python's `wave` module writes them.
 #[cfg(test)]
 mod tests {
+    use std::alloc::AllocError;
     use wave::{Refusal, header, read};
 
     // The samples 10, -20 and 30 at 8,000 Hz.
@@ -26,7 +27,7 @@ mod tests {
     #[test]
     fn every_damaged_header_byte_is_refused(rt: HostRuntime) {
         let mut file = FILE;
-        // The index stays: the whole file is read while one of its bytes is damaged, so no iterator can hold them.
+        // The index stays, since an iterator is no plainer: it would hold the bytes while the whole file is read.
         for i in 0..44 {
             file[i] ^= 0x01;
             assert!(rt; read(&file).is_err());
@@ -37,10 +38,17 @@ mod tests {
 
     #[test]
     fn every_other_length_is_refused(rt: HostRuntime) {
-        // The number stays: it is no index, but the length that is tried.
+        // The number stays, since no form without it is plainer: it is the length that is tried.
         for n in 0..50 {
             assert!(rt; read(&FILE[..n]).is_err());
         }
         assert_eq!(rt; u8::from(Refusal::NotWave), 21);
+    }
+
+    #[test]
+    fn a_refusal_says_why(rt: HostRuntime) -> Result<(), AllocError> {
+        let text = format!(in rt.alloc(); "{}", Refusal::NotWave)?;
+        assert!(rt; text.as_str() == "not a sound that an export writes");
+        Ok(())
     }
 }
