@@ -13,11 +13,12 @@ use Rattle.images.specs.declared.queue.WaitingWrite.{WaitingWrite}
 use Rattle.images.specs.Sectors.{whole, content, is_sick}
 use Rattle.images.specs.Image.{waiting_for, older, listed, sector_of, image_meaning}
 use Rattle.images.specs.Queue.{left_of, left_at}
-use Rattle.images.proofs.Contents.{whole_same, listed_well}
+use Rattle.images.specs.Lawful.{listed_well}
+use Rattle.images.proofs.Contents.{whole_same}
 
 -- the contents of a list
 contents_older : (x : List ℕ) (t : Sector) → sick_fault t ≡ None → contents (older x t) ≡ x ∷ contents t
-contents_older x (sick f) e = let z : ◌≡◌ {A = ℕ} 0 1 = cc in absurd (omega arith)
+contents_older x (sick f) e = absurd (cc)
 contents_older x (held old new) e = refl
 
 contents_listed : (x : List ℕ) (xs : List (List ℕ)) → contents (listed x xs) ≡ x ∷ xs
@@ -25,7 +26,7 @@ contents_listed x [] = refl
 contents_listed x (y ∷ ys) = contents_older x (listed y ys) (listed_well y ys) ∙ ap (λ (z : List (List ℕ)). x ∷ z) (contents_listed y ys)
 
 chosen_older : (c : ℕ) (x : List ℕ) (t : Sector) → sick_fault t ≡ None → held [] (get_or (x ∷ contents t) c (replicate 512 0)) ≡ chosen c (older x t)
-chosen_older c x (sick f) e = let z : ◌≡◌ {A = ℕ} 0 1 = cc in absurd (omega arith)
+chosen_older c x (sick f) e = absurd (cc)
 chosen_older c x (held old new) e = refl
 
 left_chosen : (c : ℕ) (x : List ℕ) (xs : List (List ℕ)) → held [] (left_of c x xs) ≡ chosen c (listed x xs)

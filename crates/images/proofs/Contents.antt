@@ -10,9 +10,10 @@ use Rattle.device.specs.Calls.{Reads, standing, sick_fault}
 use Rattle.device.proofs.Lists.{kept_refl}
 use Rattle.device.proofs.Steps.{reads_went}
 use Rattle.images.specs.declared.queue.WaitingWrite.{WaitingWrite}
-use Rattle.images.specs.Sectors.{whole, content, over, is_sick, refusal}
+use Rattle.images.specs.Sectors.{whole, content, over, is_sick, ready}
 use Rattle.images.specs.declared.sectors.Sectors.{Sectors}
 use Rattle.images.specs.Rewrites.{Rewrites, Stores}
+use Rattle.images.specs.Lawful.{listed_well}
 use Rattle.images.specs.Image.{waiting_for, older, listed, sector_of, image_sector, image_meaning}
 
 pub over_length : (bytes b : List ℕ) (s : ℕ) → 512 * s + 512 ≤ length bytes → length b ≡ 512 → length (over bytes s b) ≡ length bytes
@@ -56,16 +57,7 @@ stores s n k b lt l r =
       long = ap length r.bytes ∙ over_length s.bytes.now b k h l;
     }
 
--- a list is never sick
-sick_older : (x : List ℕ) (t : Sector) → sick_fault (older x t) ≡ sick_fault t
-sick_older x (sick f) = refl
-sick_older x (held old new) = refl
-
-pub listed_well : (x : List ℕ) (xs : List (List ℕ)) → sick_fault (listed x xs) ≡ None
-listed_well x [] = refl
-listed_well x (y ∷ ys) = sick_older x (listed y ys) ∙ listed_well y ys
-
--- what answers of the sector's readiness: it is in range and not sick
+-- a sector is ready where it is in range and not sick
 pub record Ready (bytes : List ℕ) (sick_ones : List (Option ℕ)) (s : ℕ) : Type 0 where
   pub inside : ltb s (whole bytes) ≡ true
   pub well : is_sick sick_ones s ≡ false
@@ -75,8 +67,7 @@ ready_at false bad f g e = absurd (cc)
 ready_at true true f g e = absurd (cc)
 ready_at true false f g e = (refl, refl)
 
--- nothing stands in the way of a sector that is ready
-pub ready_is : (layer : ℕ) (bytes : List ℕ) (sick_ones : List (Option ℕ)) (s : ℕ) → refusal layer (whole bytes) sick_ones s ≡ Ok tt → Ready bytes sick_ones s
+pub ready_is : (layer : ℕ) (bytes : List ℕ) (sick_ones : List (Option ℕ)) (s : ℕ) → ready layer (whole bytes) sick_ones s ≡ Ok tt → Ready bytes sick_ones s
 ready_is layer bytes sick_ones s e =
     let (inside, well) = ready_at (ltb s (whole bytes)) (is_sick sick_ones s) (sick_at layer s) (out_of_range layer s) e in
     record { inside = inside; well = well }
@@ -86,6 +77,7 @@ none_stands true false f g x xs e h = listed_well x xs
 none_stands true true f g x xs e h = absurd (cc)
 none_stands false bad f g x xs e h = absurd (cc)
 
+-- nothing stands in the way of a sector that is ready
 pub ready_stands : (layer : ℕ) (bytes : List ℕ) (sick_ones : List (Option ℕ)) (queue : List WaitingWrite) (s : ℕ) → Ready bytes sick_ones s → standing layer (image_meaning layer sick_ones bytes queue) s ≡ None
 ready_stands layer bytes sick_ones queue s r = none_stands (ltb s (whole bytes)) (is_sick sick_ones s) (sick_at layer s) (out_of_range layer s) (content bytes s) (waiting_for s queue) r.inside r.well
 

@@ -16,7 +16,8 @@ use Rattle.images.specs.Full.{all_full}
 use Rattle.images.specs.Sectors.{whole, content, over, is_sick}
 use Rattle.images.specs.Image.{waiting_for, older, listed, sector_of, image_sector, image_meaning}
 use Rattle.images.specs.Queue.{without_oldest, settle_oldest, settle_all, without_first, settled_oldest, room_queue, room_bytes, room_sectors}
-use Rattle.images.proofs.Contents.{over_at, over_length, whole_same, listed_well, Ready, ready_stands}
+use Rattle.images.specs.Lawful.{listed_well}
+use Rattle.images.proofs.Contents.{over_at, over_length, whole_same, Ready, ready_stands}
 use Rattle.images.proofs.Waits.{listed_more, waiting_more, full_first, full_rest}
 
 -- one content more is the newest

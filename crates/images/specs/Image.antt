@@ -1,8 +1,9 @@
 -- What an image means: its bytes, its sick sectors, and the writes that wait, oldest first. A plain image has none that wait.
-use Rattle.std.specs.Prelude.{ℕ, Bool, cond, List, [], ◌∷◌, Option, ◌==◌, nat_lt, Ok}
+use Rattle.std.specs.Prelude.{◌≡◌, ℕ, Bool, cond, List, [], ◌∷◌, Option, ◌==◌, nat_lt, Ok}
 use Rattle.device.specs.declared.fault.Fault.{Fault}
-use Rattle.device.specs.Faults.{sick_at}
-use Rattle.device.specs.Meaning.{Sector, sick, held, Meaning}
+use Rattle.device.specs.Faults.{Answer, sick_at}
+use Rattle.device.specs.Meaning.{Sector, sick, held, Meaning, newest}
+use Rattle.device.specs.Calls.{answer_of, standing, filled}
 use Rattle.images.specs.declared.queue.WaitingWrite.{WaitingWrite}
 use Rattle.images.specs.Sectors.{whole, content, is_sick}
 
@@ -32,3 +33,9 @@ image_sector layer sick_ones bytes queue s = sector_of (nat_lt s (whole bytes)) 
 -- an image: its power is always on
 abbrev pub image_meaning : ℕ → List (Option ℕ) → List ℕ → List WaitingWrite → Meaning
 image_meaning layer sick_ones bytes queue = record { size = whole bytes; power = Ok tt; sector = image_sector layer sick_ones bytes queue }
+
+-- a read of sector s into a buffer: the answer, the buffer, and that nothing else changes
+pub record ImageReads {I : Type 0} (layer : ℕ) (meaning : I → Meaning) (p : I) (s : ℕ) (old : List ℕ) (r : Answer) (n : I) (new : List ℕ) : Type 0 where
+  pub answer : r ≡ answer_of (standing layer (meaning p) s)
+  pub buffer : new ≡ filled r (newest ((meaning p).sector s)) old
+  pub same : n ≡ p

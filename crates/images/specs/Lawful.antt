@@ -1,5 +1,5 @@
 -- What holds of every device holds of an image: the lemmas that the images' `ghost lawful` cites.
-use Rattle.std.specs.Prelude.{◌≡◌, ℕ, ◌<◌, Bool, true, false, cond, List, [], ◌∷◌, ◌++◌, length, Option, ◌==◌, ◌≢◌, nat_lt, refl}
+use Rattle.std.specs.Prelude.{◌≡◌, ℕ, ◌<◌, Bool, true, false, cond, List, [], ◌∷◌, ◌++◌, length, None, Option, ◌==◌, nat_lt, refl}
 use Rattle.std.proofs.Common.{◌∙◌, ap, ⊎_elim, arith, length-take, length-drop, eqb-true, lt-ltb}
 use mathlib.Core.List.Memᴰ
 use mathlib.Core.List.{Memᴰ}
@@ -8,6 +8,7 @@ use Rattle.std.proofs.lemmas.Bool.{both_ways}
 use Rattle.device.specs.declared.fault.Fault.{Fault}
 use Rattle.device.specs.Faults.{sick_at}
 use Rattle.device.specs.Meaning.{Sector, sick, held, Lawful, LawfulSector}
+use Rattle.device.specs.Calls.{sick_fault}
 use Rattle.images.specs.declared.queue.WaitingWrite.{WaitingWrite}
 use Rattle.images.specs.Full.{all_full}
 use Rattle.images.specs.Sectors.{whole, content, is_sick}
@@ -40,24 +41,24 @@ listed_long x s (w ∷ queue) l h =
     step_long (s == w.sector) x w.content (waiting_for s queue) l (listed_long x s queue l rest) (listed_long w.content s queue (eqb-true _ _ first) rest)
 
 -- one more content makes no sector sick
-older_held : (x : List ℕ) (t : Sector) → ((f : Fault) → t ≢ sick f) → (f : Fault) → older x t ≢ sick f
-older_held x (sick g) n f e = n g refl
-older_held x (held old new) n f e = let z : ◌≡◌ {A = ℕ} 0 1 = cc in omega arith
+older_well : (x : List ℕ) (t : Sector) → sick_fault (older x t) ≡ sick_fault t
+older_well x (sick f) = refl
+older_well x (held old new) = refl
 
 -- a sector of contents is not sick
-listed_held : (x : List ℕ) (xs : List (List ℕ)) (f : Fault) → listed x xs ≢ sick f
-listed_held x [] f e = let z : ◌≡◌ {A = ℕ} 0 1 = cc in omega arith
-listed_held x (y ∷ ys) f e = older_held x (listed y ys) (listed_held y ys) f e
+pub listed_well : (x : List ℕ) (xs : List (List ℕ)) → sick_fault (listed x xs) ≡ None
+listed_well x [] = refl
+listed_well x (y ∷ ys) = older_well x (listed y ys) ∙ listed_well y ys
 
 -- a sector is lawful, sick by its name or with contents of 512 bytes
-long_lawful : (b : Bool) (layer s : ℕ) (t : Sector) → Long t → ((f : Fault) → t ≢ sick f) → LawfulSector (cond b (sick (sick_at layer s)) t)
+long_lawful : (b : Bool) (layer s : ℕ) (t : Sector) → Long t → sick_fault t ≡ None → LawfulSector (cond b (sick (sick_at layer s)) t)
 long_lawful true layer s t h n = refl
-long_lawful false layer s (sick f) h n = absurd (n f refl)
+long_lawful false layer s (sick f) h n = absurd (cc)
 long_lawful false layer s (held old new) h n = h
 
 -- a sector in range is lawful
 sector_lawful : (inside b : Bool) (layer s : ℕ) (x : List ℕ) (xs : List (List ℕ)) → inside ≡ true → Long (listed x xs) → LawfulSector (sector_of inside b (sick_at layer s) x xs)
-sector_lawful true b layer s x xs e h = long_lawful b layer s (listed x xs) h (listed_held x xs)
+sector_lawful true b layer s x xs e h = long_lawful b layer s (listed x xs) h (listed_well x xs)
 sector_lawful false b layer s x xs e h = absurd (both_ways false refl e)
 
 -- an image is lawful, whatever its bytes, its sick sectors and its whole waiting writes

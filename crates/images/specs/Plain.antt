@@ -3,11 +3,11 @@ use Rattle.std.specs.Prelude.{◌≡◌, ℕ, cond, List, [], is_ok, Ok, Option,
 use Rattle.std.specs.Borrow.{MutBor}
 use Rattle.device.specs.declared.fault.Layer.TheVariants.{PlainImage as PlainLayer}
 use Rattle.device.specs.Faults.{layer_number, Answer}
-use Rattle.device.specs.Meaning.{Sector, held, Meaning, Lawful, newest}
-use Rattle.device.specs.Calls.{answer_of, standing, filled}
+use Rattle.device.specs.Meaning.{Sector, held, Meaning, Lawful}
+use Rattle.device.specs.Calls.{answer_of, standing}
 use Rattle.images.specs.declared.plain.PlainImage.{PlainImage}
 use Rattle.images.specs.Sectors.{over}
-use Rattle.images.specs.Image.{image_meaning}
+use Rattle.images.specs.Image.{image_meaning, ImageReads}
 use Rattle.images.specs.Lawful.{image_lawful}
 
 -- a plain image's number as a layer
@@ -29,11 +29,9 @@ pub record PlainMade (sick_ones : List (Option ℕ)) (lent : MutBor (List ℕ)) 
   pub bytes : p.sectors.bytes.now ≡ lent.now
   pub lender : p.sectors.bytes.ghost_name ≡ lent.ghost_name
 
--- a read of sector s into a buffer: the answer, the buffer, and that nothing else changes
-pub record PlainReads (p : PlainImage) (s : ℕ) (old : List ℕ) (r : Answer) (n : PlainImage) (new : List ℕ) : Type 0 where
-  pub answer : r ≡ answer_of (standing plain_number (plain_meaning p) s)
-  pub buffer : new ≡ filled r (newest ((plain_meaning p).sector s)) old
-  pub same : n ≡ p
+-- a read of sector s into a buffer
+abbrev pub PlainReads : PlainImage → ℕ → List ℕ → Answer → PlainImage → List ℕ → Type 0
+PlainReads = ImageReads plain_number plain_meaning
 
 -- the sectors where a write of b to sector s settled at once
 abbrev pub replaced : ℕ → List ℕ → (ℕ → Sector) → ℕ → Sector

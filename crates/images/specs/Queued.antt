@@ -3,13 +3,13 @@ use Rattle.std.specs.Prelude.{◌≡◌, ℕ, cond, List, [], ◌∷◌, ◌++�
 use Rattle.std.specs.Borrow.{MutBor}
 use Rattle.device.specs.declared.fault.Layer.TheVariants.{QueuedImage as QueuedLayer}
 use Rattle.device.specs.Faults.{layer_number, Answer}
-use Rattle.device.specs.Meaning.{Sector, Meaning, Lawful, newest}
-use Rattle.device.specs.Calls.{answer_of, standing, filled, written, settled}
+use Rattle.device.specs.Meaning.{Sector, Meaning, Lawful}
+use Rattle.device.specs.Calls.{answer_of, standing, written, settled}
 use Rattle.device.specs.Cuts.{cut_by}
 use Rattle.images.specs.declared.queue.WaitingWrite.{WaitingWrite}
 use Rattle.images.specs.declared.queued.QueuedImage.{QueuedImage}
 use Rattle.images.specs.Sectors.{content}
-use Rattle.images.specs.Image.{image_meaning}
+use Rattle.images.specs.Image.{image_meaning, ImageReads}
 use Rattle.images.specs.Lawful.{image_lawful}
 use Rattle.images.specs.Queue.{settle_all, room_queue, room_bytes, room_sectors, cut_content}
 
@@ -49,11 +49,9 @@ pub record Becomes (p : QueuedImage) (disk : List ℕ) (writes : List WaitingWri
   pub queue : waiting n ≡ writes
   pub stays : Stays p n
 
--- a read of sector s into a buffer: the answer, the buffer, and that nothing else changes
-pub record QueuedReads (p : QueuedImage) (s : ℕ) (old : List ℕ) (r : Answer) (n : QueuedImage) (new : List ℕ) : Type 0 where
-  pub answer : r ≡ answer_of (standing queued_number (queued_meaning p) s)
-  pub buffer : new ≡ filled r (newest ((queued_meaning p).sector s)) old
-  pub same : n ≡ p
+-- a read of sector s into a buffer
+abbrev pub QueuedReads : QueuedImage → ℕ → List ℕ → Answer → QueuedImage → List ℕ → Type 0
+QueuedReads = ImageReads queued_number queued_meaning
 
 -- the waiting writes, with room made for a write of b to sector s and that write added
 abbrev pub with_write : QueuedImage → ℕ → List ℕ → List WaitingWrite

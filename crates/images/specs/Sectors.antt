@@ -24,6 +24,6 @@ names s (Some k) = k == s
 abbrev pub is_sick : List (Option ℕ) → ℕ → Bool
 is_sick sick s = list_any (names s) sick
 
--- what a read or a write of sector s answers: range first, then sickness
-abbrev pub refusal : ℕ → ℕ → List (Option ℕ) → ℕ → Answer
-refusal layer size sick s = cond (nat_lt s size) (cond (is_sick sick s) (Err (sick_at layer s)) (Ok tt)) (Err (out_of_range layer s))
+-- whether sector s may be read and written: range first, then sickness
+abbrev pub ready : ℕ → ℕ → List (Option ℕ) → ℕ → Answer
+ready layer size sick s = cond (nat_lt s size) (cond (is_sick sick s) (Err (sick_at layer s)) (Ok tt)) (Err (out_of_range layer s))

@@ -1,7 +1,7 @@
 // The bytes of an image taken as sectors, and which of them are sick.
 ghost use Rattle.std.specs.Prelude.{◌≡◌, ◌<◌};
 ghost use Rattle.device.specs.Faults.{layer_number};
-ghost use Rattle.images.specs.Sectors.{whole, content, refusal};
+ghost use Rattle.images.specs.Sectors.{whole, content, ready};
 ghost use Rattle.images.specs.Queue.{settle_write};
 ghost use Rattle.images.specs.Rewrites.{Rewrites, Stores};
 
@@ -26,7 +26,7 @@ impl<'a> Sectors<'a> {
 
     // Whether the sector may be read and written: the layer has it, and it is not sick.
     pub fn ready(&self, layer: Layer, sector: u32) -> Result<(), Fault>
-        ensures { result ≡ refusal (layer_number layer) (whole self.now.bytes.now) self.now.sick sector }
+        ensures { result ≡ ready (layer_number layer) (whole self.now.bytes.now) self.now.sick sector }
     {
         in_range(layer.into(), self.count(), sector)?;
         if self.sick.contains(&Some(sector)) {
