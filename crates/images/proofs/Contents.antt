@@ -1,11 +1,11 @@
 -- Sectors of bytes, and what stands in the way of a read or a write of an image.
-use Rattle.std.proofs.Common.{◌≡◌, ℕ, ◌+◌, ◌-◌, ◌*◌, ◌/◌, ◌<◌, ◌≤◌, min, Bool, true, false, cond, eqb, ltb, List, [], ◌∷◌, length, take, drop, Some, None, Ok, Err, Option, sym, refl, ap, ◌∙◌, ⊎_elim, arith, length-append, length-drop, length-take, length-take-le, take_at, drop_at, eqb-true}
+use Rattle.std.proofs.Common.{◌≡◌, ℕ, ◌+◌, ◌-◌, ◌*◌, ◌/◌, ◌<◌, ◌≤◌, min, Bool, true, false, cond, eqb, ltb, List, length, take, drop, Some, None, Ok, Err, Option, sym, refl, ap, ◌∙◌, ⊎_elim, arith, length-append, length-drop, length-take, length-take-le, take_at, drop_at, eqb-true}
 use Rattle.std.proofs.lemmas.Bool.{cases_Bool, cases_order}
 use borrow.Author.Tests.{eqb-false}
 use Rattle.std.proofs.lemmas.Slice.{between_is, take-put_mid_below, drop-put_mid}
 use Rattle.device.specs.declared.fault.Fault.{Fault}
 use Rattle.device.specs.Faults.{Answer, out_of_range, sick_at}
-use Rattle.device.specs.Meaning.{Sector, sick, held, newest}
+use Rattle.device.specs.Meaning.{newest}
 use Rattle.device.specs.Calls.{Reads, standing, sick_fault}
 use Rattle.device.proofs.Lists.{kept_refl}
 use Rattle.device.proofs.Steps.{reads_went}
@@ -14,7 +14,7 @@ use Rattle.images.specs.Sectors.{whole, content, over, is_sick, ready}
 use Rattle.images.specs.declared.sectors.Sectors.{Sectors}
 use Rattle.images.specs.Rewrites.{Rewrites, Stores}
 use Rattle.images.specs.Lawful.{listed_well}
-use Rattle.images.specs.Image.{waiting_for, older, listed, sector_of, image_sector, image_meaning}
+use Rattle.images.specs.Image.{waiting_for, listed, sector_of, image_sector, image_meaning}
 
 pub over_length : (bytes b : List ℕ) (s : ℕ) → 512 * s + 512 ≤ length bytes → length b ≡ 512 → length (over bytes s b) ≡ length bytes
 over_length bytes b s h l = simp (length-append, length-take, length-drop) (omega arith)

@@ -2,7 +2,7 @@
 ghost use Rattle.std.specs.Prelude.{◌≡◌, [], ◌∷◌, map, Ok};
 ghost use Rattle.device.specs.Calls.{Reads, Writes, Flushes};
 ghost use Rattle.device.specs.Cuts.{EachCut, cut_by};
-ghost use Rattle.images.specs.Sectors.{whole};
+ghost use Rattle.images.specs.Sectors.{whole, ready};
 ghost use Rattle.images.specs.Plain.{plain_number, plain_meaning, plain_lawful, PlainMade, PlainReads, PlainWrites, PlainFlushes};
 
 use crate::sectors::Sectors;
@@ -22,6 +22,15 @@ impl<'a> PlainImage<'a> {
         PlainImage {
             sectors: Sectors { bytes, sick },
         }
+    }
+
+    // Writes a sector that is ready.
+    fn place(&mut self, sector: u32, content: &[u8; 512])
+        requires { ready plain_number (whole self.old.sectors.bytes.now) self.old.sectors.sick sector ≡ Ok tt }
+        ensures meets { Writes plain_number (plain_meaning self.old) sector content.now (Ok tt) (plain_meaning self.new) }
+        ensures exact { PlainWrites self.old sector content.now (Ok tt) self.new }
+    {
+        self.sectors.store(sector, content);
     }
 }
 
@@ -68,7 +77,7 @@ impl<'a> Device for PlainImage<'a> {
         ensures exact { PlainWrites self.old sector content.now result self.new }
     {
         self.sectors.ready(Layer::PlainImage, sector)?;
-        self.sectors.store(sector, content);
+        self.place(sector, content);
         Ok(())
     }
 

@@ -1,5 +1,5 @@
 // The writes that wait in a queued image.
-ghost use Rattle.std.specs.Prelude.{◌≡◌, ℕ, ◌≤◌, ◌<◌, true, List, [], ◌∷◌, ◌++◌, length, IfOk, IfNone, unwrap_or, slice_get};
+ghost use Rattle.std.specs.Prelude.{◌≡◌, ℕ, ◌+◌, ◌≤◌, ◌<◌, ◌↔◌, true, List, [], ◌∷◌, ◌++◌, length, IfOk, IfNone, IsTrue, MatchOption, unwrap_or, slice_get};
 ghost use Rattle.std.specs.VecDeque.{deque_capacity};
 ghost use Rattle.std.specs.Option.{option_copied, option_to_list};
 ghost use Rattle.images.specs.Full.{all_full};
@@ -38,11 +38,11 @@ impl Queue {
         Ok(Queue { writes })
     }
 
-    // How many writes wait.
-    pub fn len(&self) -> usize
-        ensures { result ≡ length self.now.writes.items }
+    // Whether there is no room for one more.
+    pub fn is_full(&self) -> bool
+        ensures { IsTrue result ↔ (16 ≤ length self.now.writes.items) }
     {
-        self.writes.len()
+        self.writes.len() >= 16
     }
 
     // Lets go of all of them.
@@ -97,9 +97,16 @@ impl Queue {
     pub fn left(&self, sector: u32, choice: u8) -> Option<&[u8; 512]>
         ensures { (x : List ℕ) → unwrap_or (option_copied result) x ≡ left_of choice x (waiting_for sector self.now.writes.items) }
     {
-        let place = usize::from(choice).checked_sub(1)?;
+        let place = place_of(choice)?;
         // Up to 16 writes are looked through a second time: a search that also counts would be no plainer.
         self.waiting(sector, 0)?;
         Some(self.waiting(sector, place).unwrap_or(&[0; 512]))
     }
+}
+
+// The place among the waiting contents that the choice names; choice 0 names none.
+fn place_of(choice: u8) -> Option<usize>
+    ensures { MatchOption result (choice ≡ 0) (λ place. choice ≡ place + 1) }
+{
+    usize::from(choice).checked_sub(1)
 }

@@ -2,7 +2,7 @@
 ghost use Rattle.std.specs.Prelude.{◌≡◌, ◌<◌, [], ◌∷◌, map, length, IfOk, Ok};
 ghost use Rattle.device.specs.Calls.{Reads, Writes, Flushes};
 ghost use Rattle.device.specs.Cuts.{EachCut, cut_by};
-ghost use Rattle.images.specs.Sectors.{whole};
+ghost use Rattle.images.specs.Sectors.{whole, ready};
 ghost use Rattle.images.specs.Queue.{room_queue, room_bytes};
 ghost use Rattle.images.specs.Queued.{queued_number, waiting, queued_meaning, queued_lawful, Becomes, QueuedMade, QueuedReads, QueuedWrites, QueuedFlushes, QueuedCuts};
 
@@ -38,11 +38,45 @@ impl<'a> QueuedImage<'a> {
         ensures room { length (waiting self.new) < 16 }
         ensures exact { Becomes self.old (room_bytes self.old.sectors.bytes.now (waiting self.old)) (room_queue (waiting self.old)) self.new }
     {
-        if self.queue.len() >= 16
+        if self.queue.is_full()
             && let Some(write) = self.queue.take_oldest()
         {
             self.sectors.settle(&write);
         }
+    }
+
+    // Writes a sector that is ready.
+    fn place(&mut self, sector: u32, content: &[u8; 512])
+        requires { ready queued_number (whole self.old.sectors.bytes.now) self.old.sectors.sick sector ≡ Ok tt }
+        ensures meets { Writes queued_number (queued_meaning self.old) sector content.now (Ok tt) (queued_meaning self.new) }
+        ensures exact { QueuedWrites self.old sector content.now (Ok tt) self.new }
+    {
+        self.make_room();
+        self.queue.add(sector, content);
+    }
+
+    // Settles every waiting write.
+    fn settle_all(&mut self)
+        ensures meets { Flushes (queued_meaning self.old) (Ok tt) (queued_meaning self.new) }
+        ensures exact { QueuedFlushes self.old (Ok tt) self.new }
+    {
+        while let Some(write) = self.queue.take_oldest() {
+            self.sectors.settle(&write);
+        }
+    }
+
+    // Leaves of every sector what the plan says, and nothing waits.
+    fn leave_chosen(&mut self, plan: &[u8])
+        ensures each { EachCut (queued_meaning self.old ∷ []) (queued_meaning self.new ∷ []) }
+        ensures exact { QueuedCuts self.old plan.now self.new }
+    {
+        for sector in 0..self.size() {
+            let choice = plan.get(sector as usize).copied().unwrap_or(0);
+            if let Some(content) = self.queue.left(sector, choice) {
+                self.sectors.store(sector, content);
+            }
+        }
+        self.queue.clear();
     }
 }
 
@@ -92,8 +126,7 @@ impl<'a> Device for QueuedImage<'a> {
         ensures exact { QueuedWrites self.old sector content.now result self.new }
     {
         self.sectors.ready(Layer::QueuedImage, sector)?;
-        self.make_room();
-        self.queue.add(sector, content);
+        self.place(sector, content);
         Ok(())
     }
 
@@ -101,10 +134,7 @@ impl<'a> Device for QueuedImage<'a> {
         ensures meets { Flushes (queued_meaning self.old) result (queued_meaning self.new) }
         ensures exact { QueuedFlushes self.old result self.new }
     {
-        // Oldest first, so that of a sector's writes the newest is what stays.
-        while let Some(write) = self.queue.take_oldest() {
-            self.sectors.settle(&write);
-        }
+        self.settle_all();
         Ok(())
     }
 }
@@ -119,12 +149,6 @@ impl<'a> CuttableDevice for QueuedImage<'a> {
         ensures each { EachCut (queued_meaning self.old ∷ []) (queued_meaning self.new ∷ []) }
         ensures exact { QueuedCuts self.old plan.now self.new }
     {
-        for sector in 0..self.size() {
-            let choice = plan.get(sector as usize).copied().unwrap_or(0);
-            if let Some(content) = self.queue.left(sector, choice) {
-                self.sectors.store(sector, content);
-            }
-        }
-        self.queue.clear();
+        self.leave_chosen(plan);
     }
 }

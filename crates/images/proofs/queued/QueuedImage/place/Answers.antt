@@ -4,7 +4,7 @@ use Rattle.images.specs.declared.queue.WaitingWrite.{WaitingWrite}
 use Rattle.images.specs.Queued.{queued_number, waiting}
 use Rattle.images.proofs.Contents.{ready_is, ready_stands}
 use Rattle.images.proofs.Settles.{write_writes, write_lists}
-use Rattle.images.proofs.queued.QueuedImageDevice.write.Goals as goal
+use Rattle.images.proofs.queued.QueuedImage.place.Goals as goal
 
 pub returns : goal.returns
 returns c =
@@ -12,7 +12,7 @@ returns c =
     let queue = waiting c.args.self.now in
     let h = c.make_room.ensures.exact in
     let disk = c.make_room.new.self.sectors.bytes.now in
-    let r = ready_is queued_number p.bytes.now p.sick c.args.sector (sym c.in_ok-ready.ensures) in
+    let r = ready_is queued_number p.bytes.now p.sick c.args.sector c.requires in
     let w : WaitingWrite = record { sector = c.args.sector; content = c.args.content.now } in
     let e = c.add.ensures ∙ ap (λ (q : List WaitingWrite). q ++ (w ∷ [])) h.queue in
     let full = c.args.self.now.queue.full in

@@ -2,7 +2,7 @@ use Rattle.std.proofs.Common.{◌≡◌, [], sym, refl, ap, ◌∙◌, rules}
 use Rattle.images.specs.Queue.{settle_all}
 use Rattle.images.specs.Queued.{queued_number, waiting}
 use Rattle.images.proofs.Settles.{flush_flushes, flush_lists}
-use Rattle.images.proofs.queued.QueuedImageDevice.flush.Goals as goal
+use Rattle.images.proofs.queued.QueuedImage.settle_all.Goals as goal
 
 pub returns : goal.returns
 returns c =

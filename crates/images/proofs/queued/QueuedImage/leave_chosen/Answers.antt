@@ -1,6 +1,5 @@
-use Rattle.std.proofs.Common.{◌≡◌, refl, cond, eqb, Bool, ℕ, List, [], ◌∷◌, get_or, ap, ◌∙◌, arith, rules}
+use Rattle.std.proofs.Common.{◌≡◌, refl, cond, eqb, Bool, ℕ, List, get_or, ap, ◌∙◌, arith, rules}
 use Rattle.std.proofs.lemmas.Bool.{le-ltb}
-use Rattle.device.specs.Meaning.{Meaning}
 use Rattle.device.specs.Cuts.{cut_by}
 use Rattle.device.proofs.Cuts.{cut_by_plan}
 use Rattle.images.specs.declared.queue.WaitingWrite.{WaitingWrite}
@@ -9,8 +8,8 @@ use Rattle.images.specs.Image.{waiting_for, image_meaning}
 use Rattle.images.specs.Queue.{left_of, left_at, cut_content}
 use Rattle.images.specs.Queued.{queued_number, waiting, queued_meaning}
 use Rattle.images.proofs.Chooses.{queued_cut, same_left, left_more}
-use Rattle.images.proofs.queued.QueuedImageCuttableDevice.cut.Goals as goal
-use Rattle.images.proofs.queued.QueuedImageCuttableDevice.cut.Goals.{in-Some, in_default}
+use Rattle.images.proofs.queued.QueuedImage.leave_chosen.Goals as goal
+use Rattle.images.proofs.queued.QueuedImage.leave_chosen.Goals.{in-Some, in_default}
 
 pub loop-sector-preserved : goal.loop-sector-preserved
 loop-sector-preserved c =
@@ -55,7 +54,6 @@ returns c =
     let e : image_meaning queued_number n.sectors.sick n.sectors.bytes.now c.clear.new.self.writes.items ≡ cut_by plan (queued_meaning p) =
     rw h.stays.sick (queued_cut queued_number plan p.sectors.sick p.sectors.bytes.now n.sectors.bytes.now (waiting p) c.clear.new.self.writes.items h.long c.clear.ensures bytes) in
     record {
-      images = ap (λ (m : Meaning). m ∷ []) e;
       each = (cut_by_plan plan (queued_meaning p) _ e, tt);
       exact = record { meaning = e; queue = c.clear.ensures; bytes = bytes; long = h.long; stays = record { power = refl; sick = h.stays.sick; lender = h.stays.lender } };
     }

@@ -1,7 +1,7 @@
 use Rattle.std.proofs.Common.{◌≡◌, length}
 use Rattle.images.specs.Queue.{settle_all}
 use Rattle.images.specs.Queued.{waiting, Stays}
-use Rattle.images.proofs.queued.QueuedImageDevice.flush.Given as goal
+use Rattle.images.proofs.queued.QueuedImage.settle_all.Given as goal
 
 abbrev pub invariant-loop-write : goal.invariant-loop-write
 invariant-loop-write l = record {
