@@ -51,6 +51,8 @@ pub struct Fault {
     pub depth: u32,
 }
 
+// Layer and sector go as two numbers, as they stand in the fault: a pair of them would be no plainer. Each cause keeps a function
+// of its own: one that is passed the cause is no plainer, and a loss of power has no sector to pass.
 impl Fault {
     // A fault that arises at the layer itself.
     fn arising(cause: Cause, layer: u32, sector: u32) -> Fault

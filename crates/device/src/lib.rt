@@ -38,6 +38,7 @@ pub trait Device {
         ensures { result ≡ (meaning self.now).power };
 
     // Puts the sector's newest content into the buffer.
+    // Number and bytes go apart, here and in `write`: a struct of both would hold the reference and be no plainer.
     fn read(&mut self, sector: u32, buffer: &mut [u8; 512]) -> Result<(), Fault>
         ensures meets { Reads layer (meaning self.old) sector buffer.old result (meaning self.new) buffer.new }
         ensures exact { fetched self.old sector buffer.old result self.new buffer.new };

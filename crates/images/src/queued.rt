@@ -70,6 +70,7 @@ impl<'a> QueuedImage<'a> {
         ensures each { EachCut (queued_meaning self.old ∷ []) (queued_meaning self.new ∷ []) }
         ensures exact { QueuedCuts self.old plan.now self.new }
     {
+        // Plan, queue and bytes are all asked by the sector's number, so a loop over the numbers is plainest.
         for sector in 0..self.size() {
             let choice = plan.get(sector as usize).copied().unwrap_or(0);
             if let Some(content) = self.queue.left(sector, choice) {

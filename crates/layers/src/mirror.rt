@@ -96,6 +96,7 @@ impl<D: Device, E: Device> Mirror<D, E> {
     }
 }
 
+// Read and write begin alike and go on apart: one function that is passed the rest would be no plainer.
 impl<D: Device, E: Device> Device for Mirror<D, E> {
     ghost meaning = { mirror_meaning D.Device.meaning E.Device.meaning };
 

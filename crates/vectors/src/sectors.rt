@@ -54,7 +54,7 @@ mod tests {
         u32::from_le_bytes(*sector.last_chunk().unwrap())
     }
 
-    // Stores a kind and a check in the place of those that are there.
+    // Stores a kind and a check in the place of those that are there. The kind is a number, for some that are stored do not exist.
     fn forge(sector: &mut [u8; 512], kind: u8, check: u32) {
         sector[0] = kind;
         sector[508..].copy_from_slice(&check.to_le_bytes());
