@@ -1,4 +1,5 @@
 -- Bytes, and numbers as bytes, the lowest first.
+-- le16 and le32 stay two definitions: each spells its bytes out to its reader, and one over the number of bytes would be no plainer.
 use Rattle.std.specs.Prelude.{ℕ, ◌/◌, ◌%◌, ◌<◌, List, [], ◌∷◌, slice_index}
 
 -- each element is a byte

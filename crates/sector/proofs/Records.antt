@@ -1,6 +1,5 @@
 -- The layout: what is written part by part, what is read part by part, and that the bytes tell the record.
-use Rattle.std.proofs.Common.{◌≡◌, ℕ, zero, suc, ◌+◌, ◌-◌, ◌<◌, ◌≤◌, Bool, cond, eqb, List, [], ◌∷◌, ◌++◌, length, get_or, take, drop, MatchBool, sym, refl, ap, ◌∙◌, subst, ap₂, ⊎_elim, append_assoc, append-nil, arith, length-append, length-take-le, take_all, drop-drop, take-add, MatchOption, Ok, Err, Result}
-use borrow.Rule.Slice.PartMut.{put_mid}
+use Rattle.std.proofs.Common.{◌≡◌, ℕ, zero, suc, ◌+◌, ◌<◌, ◌≤◌, Bool, cond, eqb, List, [], ◌∷◌, ◌++◌, length, get_or, take, drop, MatchBool, sym, refl, ap, ◌∙◌, subst, ap₂, ⊎_elim, append_assoc, append-nil, arith, length-append, length-take-le, take_all, drop-drop, take-add, MatchOption, Ok, Err, Result}
 use Rattle.std.proofs.lemmas.List.{take_at, drop_at, drop_all, length-drop, take-append-drop, get_or_append_left, get_or-take, get_or-drop}
 use Rattle.std.proofs.lemmas.Bool.Decides.{eqb_tells}
 use Rattle.std.proofs.lemmas.Nat.{le_bytes_2, le_bytes_4}
@@ -16,11 +15,6 @@ use Rattle.sector.specs.declared.layout.Kind.TheVariants.{Header, Begin, Block, 
 use Rattle.sector.specs.declared.layout.UnknownKind.{UnknownKind}
 use Rattle.sector.specs.declared.layout.Fields.{Fields}
 use Rattle.sector.specs.Layout.{kind_number, IsKindNumber, Decodes, field_bytes, sealed, sector_bytes, payload_of, Fits, Sound, NoRecord}
-
--- a part of n elements was written at a
-pub put_is : (s ys zs : List ℕ) (a n : ℕ) → ys ≡ zs → put_mid a (a + n - a) s ys ≡ take a s ++ (zs ++ drop (a + n) s)
-put_is s ys zs a n e =
-    ap₂ (λ (x y : List ℕ). take a s ++ (x ++ y)) e (drop-drop (a + n - a) a s ∙ ap (λ (m : ℕ). drop m s) (omega arith))
 
 -- one more part was written, where what was written before it ends
 pub put_more : (s t u front ys zs : List ℕ) (a n : ℕ) → length front ≡ a → t ≡ front ++ drop a s → ys ≡ zs → u ≡ take a t ++ (ys ++ drop (a + n) t)
