@@ -57,7 +57,8 @@ fn take_byte(c: u32, b: u8) -> u32
     entry(0, (z % 256) as u8) ^ (z >> 8)
 }
 
-// The register after bytes, one by one.
+// The register after bytes, one by one. (This and the two below that take a register and bytes are three ways to one result: the
+// pair is what a fold takes, and no plainer as a struct.)
 fn take_bytes(start: u32, bytes: &[u8]) -> u32
     ensures { result ≡ register start bytes.now }
 {
