@@ -73,9 +73,7 @@ mod tests {
     fn a_block_comes_back(rt: HostRuntime) -> Result<(), Fail> {
         let mut sector = [0xAA; 512];
         block(&mut sector);
-        let Some(record) = decode(&sector) else {
-            return Err(Fail::new("not sound"));
-        };
+        let record = decode(&sector).ok_or_else(|| Fail::new("not sound"))?;
         assert_eq!(rt; record.fields, BLOCK);
         assert_eq!(rt; record.payload[2], 0xEC);
         assert_eq!(rt; record.payload[4], 30);
