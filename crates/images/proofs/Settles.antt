@@ -204,7 +204,3 @@ pub flush_flushes : (layer : ℕ) (sick_ones : List (Option ℕ)) (bytes bytes' 
 flush_flushes layer sick_ones bytes bytes' queue queue' h eb eq =
     flushes_went (image_meaning layer sick_ones bytes queue) (image_meaning layer sick_ones bytes' queue') (Ok tt) refl
     (record { size = ap whole eb ∙ whole_same bytes (settle_all bytes queue) (all_length bytes queue h); so = flush_lists layer sick_ones bytes bytes' queue queue' h eb eq })
-
-pub none_left : (queue : List WaitingWrite) → length queue ≤ 0 → queue ≡ []
-none_left [] h = refl
-none_left (w ∷ queue) h = absurd (omega arith)

@@ -1,11 +1,10 @@
 -- Lists of waiting writes: one more, one less, and those of one sector.
-use Rattle.std.proofs.Common.{◌≡◌, ℕ, Bool, true, false, cond, ◌&&◌, eqb, List, [], ◌∷◌, ◌++◌, map, reverse, length, Some, None, sym, refl, ap, ◌∙◌, subst, eq-eqb, eqb-true, ⊎_elim}
+use Rattle.std.proofs.Common.{◌≡◌, ℕ, Bool, true, false, cond, eqb, List, [], ◌∷◌, ◌++◌, map, reverse, length, Some, None, sym, refl, ap, ◌∙◌, subst, eqb-true, ⊎_elim}
 use Rattle.std.proofs.lemmas.Bool.{cases_Bool}
 use Rattle.std.specs.Prelude.{filter, slice_get}
 use Rattle.std.specs.Borrow.{Bor}
 use Rattle.std.specs.VecDeque.Iter.{deque_iter_steps_back, deque_iter_rest}
 use Rattle.std.proofs.lemmas.List.{reverse-append, length-reverse}
-use Rattle.std.proofs.lemmas.List.Folds.{list_all-append}
 use Rattle.std.proofs.lemmas.Option.{slice_get-map}
 use Rattle.std.proofs.lemmas.Iterator.{YieldsList}
 use Rattle.std.proofs.lemmas.Iterator.Consumers.{YieldsList-from_shown}
@@ -56,9 +55,6 @@ yields_back s queue e =
     (YieldsList-from_shown deque_iter_steps_back (λ y. y.now) (λ i. reverse (deque_iter_rest i)) back_none back_some s)
 
 -- each write has 512 bytes
-pub full_more : (queue : List WaitingWrite) (w : WaitingWrite) → all_full queue ≡ true → length w.content ≡ 512 → all_full (queue ++ (w ∷ [])) ≡ true
-full_more queue w h l = list_all-append (λ v. eqb (length v.content) 512) queue (w ∷ []) ∙ ap (λ (b : Bool). b && all_full (w ∷ [])) h ∙ ap (λ (b : Bool). b && true) (eq-eqb _ _ l)
-
 pub full_first : (w : WaitingWrite) (queue : List WaitingWrite) → all_full (w ∷ queue) ≡ true → length w.content ≡ 512
 full_first w queue h = eqb-true _ _ ((and-eq-true_iff (eqb (length w.content) 512) (all_full queue)).0 h).0
 
