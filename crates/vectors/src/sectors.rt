@@ -106,7 +106,7 @@ mod tests {
         assert_eq!(rt; Kind::try_from(u8::from(Kind::Opening)), Ok(Kind::Opening));
         assert_eq!(rt; Kind::try_from(7), Err(UnknownKind(7)));
         let text = format!(in rt.alloc(); "{}", UnknownKind(7))?;
-        assert!(rt; text.as_str() == "no kind of sector has the number 7");
+        assert!(rt; text.as_str() == "no kind of sector has number 7");
         Ok(())
     }
 
