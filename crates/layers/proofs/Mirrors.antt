@@ -1,9 +1,9 @@
 -- From what a call did to each side to what it did to the mirror.
-use Rattle.std.proofs.Common.{◌≡◌, ℕ, ◌<◌, Bool, true, false, cond, nat_lt, ◌⊎◌, List, Some, None, Ok, Err, Option, ◌==◌, sym, refl, ap, ◌∙◌, subst, inl, inr, arith, eqb-true, ltb-true, true≢false, ⊎_elim}
-use Rattle.std.proofs.lemmas.Bool.{cases_Bool}
+use Rattle.std.proofs.Common.{◌≡◌, ℕ, ◌<◌, Bool, true, false, not, cond, nat_lt, ◌⊎◌, List, Some, None, Ok, Err, Option, ◌==◌, sym, refl, ap, ◌∙◌, subst, inl, inr, arith, ltb-true, true≢false, ⊎_elim}
+use Rattle.std.proofs.lemmas.Bool.{cases_Bool, not-true}
 use Rattle.std.specs.Prelude.{MatchBool}
 use Rattle.device.specs.declared.fault.Cause.{Cause}
-use Rattle.device.specs.declared.fault.Cause.TheVariants.{Sick, PowerLost}
+use Rattle.device.specs.declared.fault.Cause.TheVariants.{Sick}
 use Rattle.device.specs.declared.fault.Fault.{Fault}
 use Rattle.device.specs.Faults.{cause_number, out_of_range, raised, raised_answer, Answer}
 use Rattle.device.specs.Meaning.{Sector, sick, held, Meaning, newest, Lawful, LawfulPower, LawfulSector}
@@ -13,7 +13,7 @@ use Rattle.device.proofs.Lists.{kept_refl, worn_refl, kept_worn, settled_kept}
 use Rattle.device.proofs.Steps.{standing_is, by_none, by_some, flushes_went, flushed_went}
 use Rattle.layers.specs.declared.mirror.Mirror.{Mirror}
 use Rattle.layers.specs.Mirrored.{either, both_power, mirrored, mirror_layer}
-use Rattle.layers.specs.Sides.{failed_by, either_answer, joined, mirror_stands, EitherFetched, BothWrote, BothFlushed, EachWrote}
+use Rattle.layers.specs.Sides.{lost_power, found_sick, either_answer, joined, mirror_stands, EitherFetched, BothWrote, BothFlushed, EachWrote}
 use Rattle.layers.proofs.Eithers.{either_worn, either_kept, either_cut, either_settled, written_either, kept_sick, healthy_first, healthy_second, both_sick, newest_first, newest_second}
 
 -- power
@@ -70,16 +70,16 @@ ready_stands a b s h k =
 -- causes
 
 -- where power went off in a call, the fault says so
-lost_says : (n : Meaning) (f : Fault) → Lawful n → n.power ≡ Err f → failed_by PowerLost (Err f) ≡ true
+lost_says : (n : Meaning) (f : Fault) → Lawful n → n.power ≡ Err f → lost_power (Err f) ≡ true
 lost_says n f h e = ap (λ (c : Cause). cause_number c == 3) (subst LawfulPower e h.power).0
 
 -- a sick sector's fault says so
-sick_says : (f : Fault) → f.cause ≡ Sick → (failed_by PowerLost (Err f) ≡ false) × (failed_by Sick (Err f) ≡ true)
-sick_says f e = (ap (λ (c : Cause). cause_number c == 3) e, ap (λ (c : Cause). cause_number c == 2) e)
+sick_says : (f : Fault) → f.cause ≡ Sick → (lost_power (Err f) ≡ false) × (found_sick (Err f) ≡ true)
+sick_says f e = (ap (λ (c : Cause). cause_number c == 3) e, ap (λ (c : Cause). not (cause_number c == 3)) e)
 
-one_cause : (p : Answer) → failed_by Sick p ≡ true → failed_by PowerLost p ≡ false
+one_cause : (p : Answer) → found_sick p ≡ true → lost_power p ≡ false
 one_cause (Ok x) e = refl
-one_cause (Err f) e = ap (λ (c : ℕ). c == 3) (eqb-true (cause_number f.cause) 2 e)
+one_cause (Err f) e = not-true (lost_power (Err f)) e
 
 -- sides
 
@@ -87,11 +87,11 @@ one_cause (Err f) e = ap (λ (c : ℕ). c == 3) (eqb-true (cause_number f.cause)
 record Side (Done Lost : Type 0) (m : Meaning) (at : ℕ → Sector) (p : Answer) (n : Meaning) : Type 0 where
   size : n.size ≡ m.size
   worn : (t : ℕ) → Worn (at t) (n.sector t)
-  how : ((failed_by PowerLost p ≡ false) × Done) ⊎ ((failed_by PowerLost p ≡ true) × (f : Fault) × (n.power ≡ Err f) × Lost)
+  how : ((lost_power p ≡ false) × Done) ⊎ ((lost_power p ≡ true) × (f : Fault) × (n.power ≡ Err f) × Lost)
 
 -- a call that nothing stood in the way of
 went_side : {Done Lost Then : Type 0} (m n : Meaning) (at : ℕ → Sector) (p : Answer) → Lawful n
-    → (Done → (t : ℕ) → Worn (at t) (n.sector t)) → (p ≡ Ok tt → Done → Then) → (failed_by PowerLost p ≡ true → Lost)
+    → (Done → (t : ℕ) → Worn (at t) (n.sector t)) → (p ≡ Ok tt → Done → Then) → (lost_power p ≡ true → Lost)
     → Went m at Done p n → Side Then Lost m at p n
 went_side m n at (Ok x) h wears does loses w = record { size = w.size; worn = wears w.so; how = inl (refl, does refl w.so) }
 went_side m n at (Err f) h wears does loses w =
@@ -114,7 +114,7 @@ record Asked (Lost : Type 0) (m : Meaning) (s : ℕ) (at : ℕ → Sector) (p : 
   side : Side (Took m s at p n) Lost m at p n
 
 called_side : {Lost : Type 0} (m n : Meaning) (s : ℕ) (at : ℕ → Sector) (p : Answer) (x : Sector) → m.sector s ≡ x → LawfulSector x → Lawful n
-    → ((f : Fault) → m.sector s ≡ sick f → Accepted at m) → (failed_by PowerLost p ≡ true → Lost)
+    → ((f : Fault) → m.sector s ≡ sick f → Accepted at m) → (lost_power p ≡ true → Lost)
     → ByFault (sick_fault x) (λ f. Refused f m p n) (Went m at (Accepted at n) p n)
     → Side (Took m s at p n) Lost m at p n
 called_side m n s at p (sick f) e l k stays loses h =
@@ -122,13 +122,13 @@ called_side m n s at p (sick f) e l k stays loses h =
     record {
       size = ap (λ (v : Meaning). v.size) h.same;
       worn = λ t. kept_worn (at t) (n.sector t) (kept t);
-      how = inl (ap (failed_by PowerLost) h.says ∙ (sick_says f l).0, record { answers = λ i. cc (ap sick_fault e); kept = kept });
+      how = inl (ap (lost_power) h.says ∙ (sick_says f l).0, record { answers = λ i. cc (ap sick_fault e); kept = kept });
     }
 called_side m n s at p (held old new) e l k stays loses h =
     went_side m n at p k (λ a t. kept_worn (at t) (n.sector t) (a t)) (λ a t. record { answers = λ i. a; kept = t }) loses h
 
 asked : {Lost : Type 0} (d : ℕ) (m n : Meaning) (s : ℕ) (at : ℕ → Sector) (p : Answer) → Ready m s → Lawful m → Lawful n
-    → ((f : Fault) → m.sector s ≡ sick f → Accepted at m) → (failed_by PowerLost p ≡ true → Lost)
+    → ((f : Fault) → m.sector s ≡ sick f → Accepted at m) → (lost_power p ≡ true → Lost)
     → ByFault (standing d m s) (λ f. Refused f m p n) (Went m at (Accepted at n) p n) → Asked Lost m s at p n
 asked d m n s at p ready h k stays loses c =
     let law = h.each s ready.range in
@@ -141,7 +141,7 @@ same_side m n s q e same = record {
   size = ap (λ (v : Meaning). v.size) same;
   worn = λ t. subst (λ (v : Meaning). Worn (m.sector t) (v.sector t)) (sym same) (worn_refl (m.sector t));
   how = inl (
-    ap (failed_by PowerLost) e,
+    ap (lost_power) e,
     record {
       answers = λ i. e;
       kept = λ t. subst (λ (v : Meaning). Kept (m.sector t) (v.sector t)) (sym same) (kept_refl (m.sector t));
@@ -150,16 +150,16 @@ same_side m n s q e same = record {
 }
 
 -- a side that answers that it is sick is sick
-is_sick : (m n : Meaning) (s : ℕ) (at : ℕ → Sector) (p : Answer) (x : Sector) → m.sector s ≡ x → Lawful n → failed_by Sick p ≡ true
+is_sick : (m n : Meaning) (s : ℕ) (at : ℕ → Sector) (p : Answer) (x : Sector) → m.sector s ≡ x → Lawful n → found_sick p ≡ true
     → ByFault (sick_fault x) (λ f. Refused f m p n) (Went m at (Accepted at n) p n) → (f : Fault) × (m.sector s ≡ sick f) × (p ≡ Err f)
 is_sick m n s at p (sick f) e k v c = (f, e, c.says)
 is_sick m n s at (Ok x) (held o w) e k v c = absurd (true≢false (sym v))
 is_sick m n s at (Err f) (held o w) e k v c = absurd (true≢false (sym (lost_says n f k c.so.power) ∙ one_cause (Err f) v))
 
 -- and one that does not is not
-is_well : (m n : Meaning) (at : ℕ → Sector) (p : Answer) (x : Sector) → LawfulSector x → failed_by Sick p ≡ false
+is_well : (m n : Meaning) (at : ℕ → Sector) (p : Answer) (x : Sector) → LawfulSector x → found_sick p ≡ false
     → ByFault (sick_fault x) (λ f. Refused f m p n) (Went m at (Accepted at n) p n) → sick_fault x ≡ None
-is_well m n at p (sick f) l v c = absurd (true≢false (sym (sick_says f l).1 ∙ ap (failed_by Sick) (sym c.says) ∙ v))
+is_well m n at p (sick f) l v c = absurd (true≢false (sym (sick_says f l).1 ∙ ap (found_sick) (sym c.says) ∙ v))
 is_well m n at p (held o w) l v c = refl
 
 -- both sides
@@ -178,10 +178,10 @@ joined_by {A} {B} {Lost} {a} {b} {a'} {b'} {p} {q} P h k both lost = cases h.how
     second_is v = cond v power (either_answer p q)
 
     first_is : Bool → Answer
-    first_is v = cond v power (second_is (failed_by PowerLost q))
+    first_is v = cond v power (second_is (lost_power q))
 
-    cases : ((failed_by PowerLost p ≡ false) × A) ⊎ ((failed_by PowerLost p ≡ true) × (f : Fault) × (a'.power ≡ Err f) × Lost)
-        → ((failed_by PowerLost q ≡ false) × B) ⊎ ((failed_by PowerLost q ≡ true) × (f : Fault) × (b'.power ≡ Err f) × Lost)
+    cases : ((lost_power p ≡ false) × A) ⊎ ((lost_power p ≡ true) × (f : Fault) × (a'.power ≡ Err f) × Lost)
+        → ((lost_power q ≡ false) × B) ⊎ ((lost_power q ≡ true) × (f : Fault) × (b'.power ≡ Err f) × Lost)
         → P (joined p q power)
     cases (inl x) (inl y) = subst P (sym (ap first_is x.0 ∙ ap second_is y.0)) (both x.1 y.1)
     cases (inl x) (inr y) =
@@ -250,7 +250,7 @@ both_refused : (a b a' b' : Meaning) (p q power : Answer) (f g : Fault) → f.ca
 both_refused a b a' b' p q power f g c d h k = record {
   says =
       ap (λ (r : Answer). joined r q power) h.says ∙ ap (λ (r : Answer). joined (Err f) r power) k.says
-      ∙ ap (λ (v : Bool). cond v power (cond (failed_by PowerLost (Err g)) power (Err (raised f)))) (sick_says f c).0
+      ∙ ap (λ (v : Bool). cond v power (cond (lost_power (Err g)) power (Err (raised f)))) (sick_says f c).0
       ∙ ap (λ (v : Bool). cond v power (Err (raised f))) (sick_says g d).0;
   same = ap (λ (x : Meaning). mirrored x b') h.same ∙ ap (mirrored a) k.same;
 }
@@ -297,7 +297,7 @@ filled_read (Some f) m n went new buffer buffer' p h e = (h, e ∙ ap (λ (r : A
 filled_read None m n went new buffer buffer' p h e = (h, e)
 
 -- a read in which power went off leaves the buffer as it was
-lost_filled : (p : Answer) (new buffer buffer' : List ℕ) → buffer' ≡ filled p new buffer → failed_by PowerLost p ≡ true → buffer' ≡ buffer
+lost_filled : (p : Answer) (new buffer buffer' : List ℕ) → buffer' ≡ filled p new buffer → lost_power p ≡ true → buffer' ≡ buffer
 lost_filled (Ok x) new buffer buffer' h e = cc
 lost_filled (Err f) new buffer buffer' h e = h
 
@@ -308,7 +308,7 @@ second_filled f (Err g) new buffer = refl
 
 -- a read of one side
 read_side : {Lost : Type 0} (d : ℕ) (m n : Meaning) (s : ℕ) (buffer buffer' : List ℕ) (p : Answer) → Ready m s → Lawful m → Lawful n
-    → (failed_by PowerLost p ≡ true → buffer' ≡ filled p (newest (m.sector s)) buffer → Lost)
+    → (lost_power p ≡ true → buffer' ≡ filled p (newest (m.sector s)) buffer → Lost)
     → Reads d m s buffer p n buffer' → Asked Lost m s m.sector p n × (buffer' ≡ filled p (newest (m.sector s)) buffer)
 read_side d m n s buffer buffer' p ready h k loses did =
     let c = read_filled (standing d m s) m n (Went m m.sector (Accepted m.sector n) p n) (newest (m.sector s)) buffer buffer' p did in
@@ -330,7 +330,7 @@ mirror_read {a} {b} {a'} {b'} {p} {q} {s} {buffer} {buffer'} ra rb h k c fills =
 
 -- the first side answers that it is sick
 read_second : (d e s : ℕ) (a b a' b' : Meaning) (buffer buffer' : List ℕ) (p q : Answer) → Ready a s → Ready b s
-    → Lawful a → Lawful b → Lawful a' → Lawful b' → failed_by Sick p ≡ true
+    → Lawful a → Lawful b → Lawful a' → Lawful b' → found_sick p ≡ true
     → Reads d a s buffer p a' buffer → Reads e b s buffer q b' buffer'
     → Reads mirror_layer (mirrored a b) s buffer (joined p q (both_power a'.power b'.power)) (mirrored a' b') buffer'
 read_second d e s a b a' b' buffer buffer' p q ra rb la lb ka kb v da db =
@@ -344,7 +344,7 @@ read_second d e s a b a' b' buffer buffer' p q ra rb la lb ka kb v da db =
 
 -- the first side does not
 read_first : (d s : ℕ) (a b a' b' : Meaning) (buffer buffer' : List ℕ) (p q : Answer) → Ready a s → Ready b s
-    → Lawful a → Lawful a' → failed_by Sick p ≡ false
+    → Lawful a → Lawful a' → found_sick p ≡ false
     → Reads d a s buffer p a' buffer' → q ≡ Ok tt → b' ≡ b
     → Reads mirror_layer (mirrored a b) s buffer (joined p q (both_power a'.power b'.power)) (mirrored a' b') buffer'
 read_first d s a b a' b' buffer buffer' p q ra rb la ka v da e same =
@@ -369,7 +369,7 @@ read_joined d e m n s buffer r buffer' h k on did =
     read_second d e s m.first m.second n.first n.second buffer buffer' did.0 did.1 ready.0 ready.1 h.0 h.1 k.0 k.1 v both.0 both.1)
     (λ v.
     let one = subst Did v did.2 in
-    read_first d s m.first m.second n.first n.second buffer buffer' did.0 did.1 ready.0 ready.1 h.0 k.0 v one.0 one.1 one.2) (cases_Bool (failed_by Sick did.0)))
+    read_first d s m.first m.second n.first n.second buffer buffer' did.0 did.1 ready.0 ready.1 h.0 k.0 v one.0 one.1 one.2) (cases_Bool (found_sick did.0)))
   where
     Did : Bool → Type 0
     Did b =

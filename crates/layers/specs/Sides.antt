@@ -1,7 +1,6 @@
 -- What a mirror's calls do to each of its sides.
-use Rattle.std.specs.Prelude.{◌≡◌, ℕ, Bool, false, cond, List, Some, Ok, Err, Option, ◌==◌, nat_lt, MatchBool}
-use Rattle.device.specs.declared.fault.Cause.{Cause}
-use Rattle.device.specs.declared.fault.Cause.TheVariants.{Sick, PowerLost}
+use Rattle.std.specs.Prelude.{◌≡◌, ℕ, Bool, false, cond, List, Some, Ok, Err, Option, ◌==◌, nat_lt, not, MatchBool}
+use Rattle.device.specs.declared.fault.Cause.TheVariants.{PowerLost}
 use Rattle.device.specs.declared.fault.Fault.{Fault}
 use Rattle.device.specs.Faults.{cause_number, out_of_range, raised, Answer}
 use Rattle.device.specs.Meaning.{Meaning}
@@ -9,10 +8,15 @@ use Rattle.device.specs.Calls.{ByAnswer, ByFault, Accepted, Reads, Writes, Flush
 use Rattle.layers.specs.declared.mirror.Mirror.{Mirror}
 use Rattle.layers.specs.Mirrored.{both_power, mirror_layer, mirror_meaning}
 
--- whether the call failed by this cause, told by its number
-abbrev pub failed_by : Cause → Answer → Bool
-failed_by c (Ok x) = false
-failed_by c (Err f) = cause_number f.cause == cause_number c
+-- whether power went off in a call that answered so
+abbrev pub lost_power : Answer → Bool
+lost_power (Ok x) = false
+lost_power (Err f) = cause_number f.cause == cause_number PowerLost
+
+-- whether the call found its sector sick: it failed, and power did not go off in it
+abbrev pub found_sick : Answer → Bool
+found_sick (Ok x) = false
+found_sick (Err f) = not (lost_power (Err f))
 
 -- accepted where either side accepted, or else the first side's fault
 abbrev pub either_answer : Answer → Answer → Answer
@@ -22,7 +26,7 @@ either_answer (Err f) (Err g) = Err (raised f)
 
 -- the mirror's answer: its power after the call where power went off on a side in it, the first side's fault where both are sick, else accepted
 abbrev pub joined : Answer → Answer → Answer → Answer
-joined p q power = cond (failed_by PowerLost p) power (cond (failed_by PowerLost q) power (either_answer p q))
+joined p q power = cond (lost_power p) power (cond (lost_power q) power (either_answer p q))
 
 -- what a read did to a device: the device before, the sector, the buffer before, the answer, the device after, the buffer after
 abbrev pub ReadRelation : Type 0 → Type 1
@@ -52,7 +56,7 @@ Joined d e Ended r n = (p : Answer) × (q : Answer) × Ended p q × (r ≡ joine
 abbrev pub SidesFetched : {D E : Type 0} → ReadRelation D → ReadRelation E
     → ℕ → List ℕ → List ℕ → Mirror D E → Mirror D E → Answer → Answer → Type 0
 SidesFetched FetchedD FetchedE s b b' m n p q =
-    MatchBool (failed_by Sick p)
+    MatchBool (found_sick p)
     (FetchedD m.first s b p n.first b × FetchedE m.second s b q n.second b')
     (FetchedD m.first s b p n.first b' × (q ≡ Ok tt) × (n.second ≡ m.second))
 

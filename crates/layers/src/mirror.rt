@@ -5,17 +5,24 @@ ghost use Rattle.device.specs.Calls.{Reads, Writes, Flushes, answer_of};
 ghost use Rattle.device.specs.Cuts.{EachCut, cut_by};
 ghost use Rattle.layers.specs.Mirrored.{both_power, mirror_layer, mirror_meaning};
 ghost use Rattle.layers.specs.MirroredLawful.{mirrored_lawful};
-ghost use Rattle.layers.specs.Sides.{failed_by, joined, sides_of, mirror_stands, EitherFetched, BothWrote, BothFlushed, MirrorFetched, MirrorWrote, MirrorFlushed, MirrorReads, MirrorWrites, MirrorFlushes, EachWrote, EachFlushed};
+ghost use Rattle.layers.specs.Sides.{lost_power, found_sick, joined, sides_of, mirror_stands, EitherFetched, BothWrote, BothFlushed, MirrorFetched, MirrorWrote, MirrorFlushed, MirrorReads, MirrorWrites, MirrorFlushes, EachWrote, EachFlushed};
 ghost use Rattle.layers.specs.WholeCuts.{WholeCut, mirror_images, under_mirror};
 
 use device::fault::{in_range, raised};
 use device::{Cause, CuttableDevice, Device, Fault, Layer};
 
-// Whether a call failed by this cause.
-fn failed_by(cause: Cause, answer: Result<(), Fault>) -> bool
-    ensures { result ≡ failed_by cause answer }
+// Whether power went off in a call that answered so.
+fn lost_power(answer: Result<(), Fault>) -> bool
+    ensures { result ≡ lost_power answer }
 {
-    answer.is_err_and(|fault| fault.cause == cause)
+    answer.is_err_and(|fault| fault.cause == Cause::PowerLost)
+}
+
+// Whether the call found its sector sick: it failed, and power did not go off in it.
+fn found_sick(answer: Result<(), Fault>) -> bool
+    ensures { result ≡ found_sick answer }
+{
+    answer.is_err() && !lost_power(answer)
 }
 
 // Two devices that hold the same.
@@ -55,7 +62,7 @@ impl<D: Device, E: Device> Mirror<D, E> {
     fn answer(&self, first: Result<(), Fault>, second: Result<(), Fault>) -> Result<(), Fault>
         ensures { result ≡ joined first second (mirror_meaning D.Device.meaning E.Device.meaning self.now).power }
     {
-        if failed_by(Cause::PowerLost, first) || failed_by(Cause::PowerLost, second) {
+        if lost_power(first) || lost_power(second) {
             self.power()
         } else {
             raised(second.or(first))
@@ -68,7 +75,7 @@ impl<D: Device, E: Device> Mirror<D, E> {
         ensures exact { EitherFetched D.Device.meaning E.Device.meaning D.Device.fetched E.Device.fetched self.old sector buffer.old result self.new buffer.new }
     {
         let first = self.first.read(sector, buffer);
-        if !failed_by(Cause::Sick, first) {
+        if !found_sick(first) {
             return self.answer(first, Ok(()));
         }
         let second = self.second.read(sector, buffer);
