@@ -8,7 +8,7 @@ use Rattle.device.specs.Calls.{ByAnswer, ByFault, Accepted, Reads, Writes, Flush
 use Rattle.layers.specs.declared.mirror.Mirror.{Mirror}
 use Rattle.layers.specs.Mirrored.{both_power, mirror_layer, mirror_meaning}
 
--- whether power went off in a call that answered so
+-- whether power went off in a call that answered so: every device's faults say their cause, so the cause tells it
 abbrev pub lost_power : Answer → Bool
 lost_power (Ok x) = false
 lost_power (Err f) = cause_number f.cause == cause_number PowerLost
