@@ -1,4 +1,4 @@
-// Faults and power: what stands in the way of a call, and where it arose.
+// Faults: what stands in the way of a call, and where it arose.
 ghost use Rattle.std.specs.Prelude.{◌≡◌};
 ghost use Rattle.device.specs.Faults.{cause_number, layer_number, fault_numbers, out_of_range, sick_at, power_lost, in_range, raised, raised_answer};
 
@@ -31,7 +31,8 @@ pub enum Layer {
     Fuse = 4,
 }
 
-// The number by which the layer names itself.
+// The number by which the layer names itself. (Each enum has its own such impl: none of our macros may write it, and a generic one
+// would be no plainer.)
 impl From<Layer> for u32 {
     ghost from_gives = { λ layer number. number ≡ layer_number layer };
 
@@ -42,7 +43,7 @@ impl From<Layer> for u32 {
 
 // What stands in the way of a call: why, at which sector of the layer where it arose (0 where power is lost),
 // which layer that is, and how many layers further down it lies.
-// A layer goes by its number here and in the calls below, and not by the enum: a device of others may stand below ours.
+// A layer goes by its number here and in the functions below, and not by the enum: a device from elsewhere may stand below ours.
 #[derive(Clone, Copy, PartialEq, Eq, Debug)]
 pub struct Fault {
     pub cause: Cause,
@@ -107,7 +108,7 @@ impl From<Fault> for [u32; 4] {
     }
 }
 
-// Whether a layer of so many sectors has this one.
+// Whether a layer of so many sectors has this one, or else the fault that it has not.
 pub fn in_range(layer: u32, size: u32, sector: u32) -> Result<(), Fault>
     ensures { result ≡ in_range layer size sector }
 {
@@ -118,7 +119,7 @@ pub fn in_range(layer: u32, size: u32, sector: u32) -> Result<(), Fault>
     }
 }
 
-// An answer, or power, as the next layer up tells it.
+// An answer as the next layer up tells it; power is told as an answer too.
 pub fn raised(answer: Result<(), Fault>) -> Result<(), Fault>
     ensures { result ≡ raised_answer answer }
 {

@@ -12,7 +12,7 @@ pub mod fault;
 
 pub use fault::{Cause, Fault, Layer};
 
-// A device, known by its meaning alone.
+// A device, known by what it means and by what its calls did.
 pub trait Device {
     // what the device means at this moment
     ghost meaning: { Self → Meaning };
@@ -33,12 +33,12 @@ pub trait Device {
     fn size(&self) -> u32
         ensures { result ≡ (meaning self.now).size };
 
-    // Whether there is power, or else the fault that says so.
+    // Whether there is power, or else the fault that says that there is none.
     fn power(&self) -> Result<(), Fault>
         ensures { result ≡ (meaning self.now).power };
 
     // Puts the sector's newest content into the buffer.
-    // Number and bytes go apart, here and in `write`: a struct of both would hold the reference and be no plainer.
+    // Sector and bytes are two parameters, here and in `write`: a struct of both would be taken apart again in each device.
     fn read(&mut self, sector: u32, buffer: &mut [u8; 512]) -> Result<(), Fault>
         ensures meets { Reads layer (meaning self.old) sector buffer.old result (meaning self.new) buffer.new }
         ensures exact { fetched self.old sector buffer.old result self.new buffer.new };

@@ -20,7 +20,8 @@ pub enum Kind {
 #[error("no kind of element has number {0}")]
 pub struct UnknownKind(pub u8);
 
-// The number that is stored for a kind.
+// The number that is stored for a kind. (Each such enum has its own two impls: none of our macros may write them, and a generic one
+// would be no plainer.)
 impl From<Kind> for u8 {
     ghost from_gives = { λ kind number. number ≡ kind_number kind };
 

@@ -1,4 +1,4 @@
-// Elements: what a track is made of. One text records and plays every type of element, by this trait.
+// Elements: what a track is made of. By this trait the same code packs, unpacks and parses every type of element.
 #![tactic(auto)]
 
 ghost use Rattle.std.specs.Prelude.{◌≡◌, ℕ, Bool, true, List, length};

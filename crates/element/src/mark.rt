@@ -46,7 +46,7 @@ impl TryFrom<u8> for Event {
     }
 }
 
-// An alarm mark. Its event stays a number by a rule of the project: one that does not exist has to be asked for and refused.
+// An alarm mark. Its event stays a number by a rule of the project: one that does not exist has to reach the call that refuses it.
 #[derive(Clone, Copy, PartialEq, Eq, Debug)]
 pub struct Mark {
     pub tick: u32,

@@ -30,7 +30,7 @@ pub fn pack<E: Element>(elements: &[E], payload: &mut [u8]) -> Result<(), NoRoom
     if elements.len() > payload.len() / width {
         return Err(NoRoom);
     }
-    // By place, since of what `chunks_exact_mut` lends nothing is known once the loop is over.
+    // By place (tried otherwise): of what is written through `chunks_exact_mut` nothing is known once the loop is over.
     for (i, x) in elements.iter().enumerate() {
         let at = i * width;
         x.put(&mut payload[at..at + width]);
@@ -38,13 +38,13 @@ pub fn pack<E: Element>(elements: &[E], payload: &mut [u8]) -> Result<(), NoRoom
     Ok(())
 }
 
-// Fills the slice with the elements that the front of the payload says, as far as both reach; answers how many.
+// Fills the slice with the elements that the front of the payload holds, as far as both reach; returns how many.
 pub fn unpack<E: Element>(payload: &[u8], out: &mut [E]) -> usize
     ensures count { result ≡ min (length out.old) (length payload.now / width_of E.Element.KIND) }
     ensures elements { out.new ≡ unpacked E.Element.value (width_of E.Element.KIND) result payload.now ++ drop result out.old }
     ensures back { (xs : List E) (rest : List ℕ) → AllPass E.Element.lawful xs → payload.now ≡ flat_map E.Element.bytes xs ++ rest → length xs ≤ result → take (length xs) out.new ≡ xs }
 {
-    // Not a `zip` of the two: of what an adapter of `iter_mut` lends nothing is known once the loop is over.
+    // No `zip` of the two (tried): what is written through `iter_mut` is known after the loop under `enumerate`, and not under `zip`.
     let mut chunks = payload.chunks_exact(E::KIND.width());
     for (i, slot) in out.iter_mut().enumerate() {
         let Some(bytes) = chunks.next() else {

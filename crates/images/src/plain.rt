@@ -62,29 +62,20 @@ impl<'a> Device for PlainImage<'a> {
         Ok(())
     }
 
-    fn read(&mut self, sector: u32, buffer: &mut [u8; 512]) -> Result<(), Fault>
-        ensures meets { Reads plain_number (plain_meaning self.old) sector buffer.old result (plain_meaning self.new) buffer.new }
-        ensures exact { PlainReads self.old sector buffer.old result self.new buffer.new }
-    {
+    fn read(&mut self, sector: u32, buffer: &mut [u8; 512]) -> Result<(), Fault> {
         // A refused read leaves the buffer as it was.
         self.sectors.ready(Layer::PlainImage, sector)?;
         self.sectors.load(sector, buffer);
         Ok(())
     }
 
-    fn write(&mut self, sector: u32, content: &[u8; 512]) -> Result<(), Fault>
-        ensures meets { Writes plain_number (plain_meaning self.old) sector content.now result (plain_meaning self.new) }
-        ensures exact { PlainWrites self.old sector content.now result self.new }
-    {
+    fn write(&mut self, sector: u32, content: &[u8; 512]) -> Result<(), Fault> {
         self.sectors.ready(Layer::PlainImage, sector)?;
         self.place(sector, content);
         Ok(())
     }
 
-    fn flush(&mut self) -> Result<(), Fault>
-        ensures meets { Flushes (plain_meaning self.old) result (plain_meaning self.new) }
-        ensures exact { PlainFlushes self.old result self.new }
-    {
+    fn flush(&mut self) -> Result<(), Fault> {
         // Every write has settled already.
         Ok(())
     }

@@ -31,10 +31,10 @@ impl Queue {
     ghost use Rattle.images.specs.Queue.{left_of};
 
     // An empty queue.
-    pub fn new(heap: Global) -> Result<Queue, AllocError>
+    pub fn new(alloc: Global) -> Result<Queue, AllocError>
         ensures { IfOk result (λ q. q.writes.items ≡ []) }
     {
-        let writes = VecDeque::with_capacity(heap, 16)?;
+        let writes = VecDeque::with_capacity(alloc, 16)?;
         Ok(Queue { writes })
     }
 
@@ -93,7 +93,7 @@ impl Queue {
             .map(|write| &write.content)
     }
 
-    // What the choice leaves of the sector in place of its settled content: choice 0 keeps that, and so does any where none waits.
+    // The content that the choice puts over the sector's settled one; none at choice 0 or where no write waits: the settled one stays.
     pub fn left(&self, sector: u32, choice: u8) -> Option<&[u8; 512]>
         ensures { (x : List ℕ) → unwrap_or (option_copied result) x ≡ left_of choice x (waiting_for sector self.now.writes.items) }
     {

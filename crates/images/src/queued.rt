@@ -12,7 +12,7 @@ use device::{CuttableDevice, Device, Fault, Layer};
 use std::alloc::{AllocError, Global};
 
 // An image with up to 16 writes that wait before they settle.
-// It is a type beside PlainImage: one type for both would have a plain image reserve memory, and fail where there is none.
+// A type beside PlainImage: one type for both would ask in each call whether there is a queue, and its contracts would go by cases.
 #[derive(Drop)]
 pub struct QueuedImage<'a> {
     sectors: Sectors<'a>,
@@ -22,13 +22,13 @@ pub struct QueuedImage<'a> {
 impl<'a> QueuedImage<'a> {
     // An image over the whole sectors of the bytes, with up to four sick sectors. All the memory it needs is reserved here.
     pub fn new(
-        heap: Global,
+        alloc: Global,
         bytes: &'a mut [u8],
         sick: [Option<u32>; 4],
     ) -> Result<QueuedImage<'a>, AllocError>
         ensures { IfOk result (λ p. QueuedMade sick bytes.entry p) }
     {
-        let queue = Queue::new(heap)?;
+        let queue = Queue::new(alloc)?;
         let sectors = Sectors { bytes, sick };
         Ok(QueuedImage { sectors, queue })
     }
@@ -65,7 +65,7 @@ impl<'a> QueuedImage<'a> {
         }
     }
 
-    // Leaves of every sector what the plan says, and nothing waits.
+    // Leaves of every sector what the plan says, and lets go of the waiting writes.
     fn leave_chosen(&mut self, plan: &[u8])
         ensures each { EachCut (queued_meaning self.old ∷ []) (queued_meaning self.new ∷ []) }
         ensures exact { QueuedCuts self.old plan.now self.new }
@@ -109,10 +109,7 @@ impl<'a> Device for QueuedImage<'a> {
         Ok(())
     }
 
-    fn read(&mut self, sector: u32, buffer: &mut [u8; 512]) -> Result<(), Fault>
-        ensures meets { Reads queued_number (queued_meaning self.old) sector buffer.old result (queued_meaning self.new) buffer.new }
-        ensures exact { QueuedReads self.old sector buffer.old result self.new buffer.new }
-    {
+    fn read(&mut self, sector: u32, buffer: &mut [u8; 512]) -> Result<(), Fault> {
         // A refused read leaves the buffer as it was.
         self.sectors.ready(Layer::QueuedImage, sector)?;
         match self.queue.newest(sector) {
@@ -122,19 +119,13 @@ impl<'a> Device for QueuedImage<'a> {
         Ok(())
     }
 
-    fn write(&mut self, sector: u32, content: &[u8; 512]) -> Result<(), Fault>
-        ensures meets { Writes queued_number (queued_meaning self.old) sector content.now result (queued_meaning self.new) }
-        ensures exact { QueuedWrites self.old sector content.now result self.new }
-    {
+    fn write(&mut self, sector: u32, content: &[u8; 512]) -> Result<(), Fault> {
         self.sectors.ready(Layer::QueuedImage, sector)?;
         self.place(sector, content);
         Ok(())
     }
 
-    fn flush(&mut self) -> Result<(), Fault>
-        ensures meets { Flushes (queued_meaning self.old) result (queued_meaning self.new) }
-        ensures exact { QueuedFlushes self.old result self.new }
-    {
+    fn flush(&mut self) -> Result<(), Fault> {
         self.settle_all();
         Ok(())
     }

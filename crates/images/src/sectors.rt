@@ -9,7 +9,8 @@ use crate::queue::WaitingWrite;
 use device::fault::in_range;
 use device::{Fault, Layer};
 
-// Bytes that the caller lends, taken as sectors, and up to four sectors that are sick.
+// Bytes that the caller lends, taken as sectors, and up to four sectors that are sick: an array of options, which needs no memory
+// and of which none has to be refused.
 #[derive(Drop)]
 pub struct Sectors<'a> {
     pub bytes: &'a mut [u8],

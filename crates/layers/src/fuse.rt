@@ -134,6 +134,7 @@ impl<D: Device> Device for Fuse<D> {
         raised(self.inner.read(sector, buffer))
     }
 
+    // Write and flush end alike: a function for three short lines would be no plainer.
     fn write(&mut self, sector: u32, content: &[u8; 512]) -> Result<(), Fault>
         ensures meets { Writes fuse_layer (fuse_meaning D.Device.meaning self.old) sector content.now result (fuse_meaning D.Device.meaning self.new) }
         ensures counts { Counts result self.old.counter self.new.counter }

@@ -11,7 +11,7 @@ ghost use Rattle.layers.specs.WholeCuts.{WholeCut, mirror_images, under_mirror};
 use device::fault::{in_range, raised};
 use device::{Cause, CuttableDevice, Device, Fault, Layer};
 
-// Whether power went off in a call that answered so.
+// Whether the answer says that power went off in the call.
 fn lost_power(answer: Result<(), Fault>) -> bool
     ensures { result ≡ lost_power answer }
 {
@@ -82,7 +82,8 @@ impl<D: Device, E: Device> Mirror<D, E> {
         self.answer(first, second)
     }
 
-    // Writes to both sides.
+    // Writes to both sides. (Beside `flush_both` it differs in the call alone; as a closure that would be passed twice, once for each
+    // type of side.)
     fn write_both(&mut self, sector: u32, content: &[u8; 512]) -> Result<(), Fault>
         ensures sides { BothWrote (λ a. a) (λ b. b) (Writes D.Device.layer) (Writes E.Device.layer) (sides_of D.Device.meaning E.Device.meaning self.old) sector content.now result (sides_of D.Device.meaning E.Device.meaning self.new) }
         ensures exact { BothWrote D.Device.meaning E.Device.meaning D.Device.wrote E.Device.wrote self.old sector content.now result self.new }
@@ -103,6 +104,7 @@ impl<D: Device, E: Device> Mirror<D, E> {
     }
 }
 
+// The trait's clauses stand here again beside those of the mirror, since clauses that a method has of its own replace them.
 // Read and write begin alike and go on apart: one function that is passed the rest would be no plainer.
 impl<D: Device, E: Device> Device for Mirror<D, E> {
     ghost meaning = { mirror_meaning D.Device.meaning E.Device.meaning };

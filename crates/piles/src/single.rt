@@ -6,19 +6,17 @@ mod tests {
     use images::{PlainImage, QueuedImage};
     use std::test::Fail;
 
-    const OK: [u32; 4] = [0; 4];
-
     #[test]
     fn bytes_for_no_sector(rt: HostRuntime) -> Result<(), Fail> {
         let mut bytes = vec![in rt.alloc(); 7u8; 511]?;
         let mut d = PlainImage::new(bytes.as_mut_slice(), [None; 4]);
         assert_eq!(rt; d.size(), 0);
-        assert_eq!(rt; read(&mut d, 0), [1, 0, 1, 0]);
-        assert_eq!(rt; write(&mut d, 0, 1), [1, 0, 1, 0]);
+        assert_eq!(rt; read(&mut d, 0), Err([1, 0, 1, 0]));
+        assert_eq!(rt; write(&mut d, 0, 1), Err([1, 0, 1, 0]));
         assert_eq!(rt; last(&mut d, 0), 255);
-        assert_eq!(rt; flush(&mut d), OK);
+        assert_eq!(rt; flush(&mut d), Ok(()));
         d.cut(&[1, 2, 3]);
-        assert_eq!(rt; power(&d), OK);
+        assert_eq!(rt; power(&d), Ok(()));
         Ok(())
     }
 
@@ -28,11 +26,11 @@ mod tests {
         {
             let mut d = PlainImage::new(bytes.as_mut_slice(), [Some(0), Some(9), None, None]);
             assert_eq!(rt; d.size(), 2);
-            assert_eq!(rt; write(&mut d, 0, 5), [2, 0, 1, 0]);
-            assert_eq!(rt; read(&mut d, 0), [2, 0, 1, 0]);
+            assert_eq!(rt; write(&mut d, 0, 5), Err([2, 0, 1, 0]));
+            assert_eq!(rt; read(&mut d, 0), Err([2, 0, 1, 0]));
             assert_eq!(rt; last(&mut d, 0), 255);
-            assert_eq!(rt; write(&mut d, 1, 6), OK);
-            assert_eq!(rt; write(&mut d, 1, 7), OK);
+            assert_eq!(rt; write(&mut d, 1, 6), Ok(()));
+            assert_eq!(rt; write(&mut d, 1, 7), Ok(()));
             d.cut(&[0, 0]);
             assert_eq!(rt; last(&mut d, 1), 7);
         }
@@ -49,8 +47,8 @@ mod tests {
         let mut bytes = vec![in rt.alloc(); 8u8; 1024]?;
         let mut d = QueuedImage::new(rt.alloc(), bytes.as_mut_slice(), [None; 4])?;
         for byte in 1..4u8 {
-            assert_eq!(rt; write(&mut d, 0, byte), OK);
-            assert_eq!(rt; write(&mut d, 1, byte), OK);
+            assert_eq!(rt; write(&mut d, 0, byte), Ok(()));
+            assert_eq!(rt; write(&mut d, 1, byte), Ok(()));
         }
         assert_eq!(rt; last(&mut d, 0), 3);
         d.cut(&[2, 9, 1, 1]);
@@ -59,7 +57,7 @@ mod tests {
         Ok(())
     }
 
-    // A plan that is too short chooses the oldest.
+    // A plan that is too short chooses the oldest content, the settled one.
     #[test]
     fn a_missing_choice_is_0(rt: HostRuntime) -> Result<(), Fail> {
         let mut bytes = vec![in rt.alloc(); 8u8; 1024]?;
@@ -68,9 +66,9 @@ mod tests {
             bytes.as_mut_slice(),
             [None, None, None, Some(0)],
         )?;
-        assert_eq!(rt; write(&mut d, 0, 1), [2, 0, 2, 0]);
-        assert_eq!(rt; write(&mut d, 1, 1), OK);
-        assert_eq!(rt; write(&mut d, 2, 1), [1, 2, 2, 0]);
+        assert_eq!(rt; write(&mut d, 0, 1), Err([2, 0, 2, 0]));
+        assert_eq!(rt; write(&mut d, 1, 1), Ok(()));
+        assert_eq!(rt; write(&mut d, 2, 1), Err([1, 2, 2, 0]));
         d.cut(&[]);
         assert_eq!(rt; last(&mut d, 1), 8);
         Ok(())
@@ -82,7 +80,7 @@ mod tests {
         let mut bytes = vec![in rt.alloc(); 0u8; 512]?;
         let mut d = QueuedImage::new(rt.alloc(), bytes.as_mut_slice(), [None; 4])?;
         for byte in 1..18u8 {
-            assert_eq!(rt; write(&mut d, 0, byte), OK);
+            assert_eq!(rt; write(&mut d, 0, byte), Ok(()));
         }
         assert_eq!(rt; last(&mut d, 0), 17);
         d.cut(&[]);
@@ -95,9 +93,9 @@ mod tests {
         let mut bytes = vec![in rt.alloc(); 0u8; 512]?;
         {
             let mut d = QueuedImage::new(rt.alloc(), bytes.as_mut_slice(), [None; 4])?;
-            assert_eq!(rt; write(&mut d, 0, 1), OK);
-            assert_eq!(rt; write(&mut d, 0, 2), OK);
-            assert_eq!(rt; flush(&mut d), OK);
+            assert_eq!(rt; write(&mut d, 0, 1), Ok(()));
+            assert_eq!(rt; write(&mut d, 0, 2), Ok(()));
+            assert_eq!(rt; flush(&mut d), Ok(()));
             d.cut(&[]);
             assert_eq!(rt; last(&mut d, 0), 2);
         }

@@ -7,25 +7,23 @@ mod tests {
     use layers::{Fuse, Mirror};
     use std::test::Fail;
 
-    const OK: [u32; 4] = [0; 4];
-
     // Only accepted writes and flushes count.
     #[test]
     fn a_fuse_counts(rt: HostRuntime) -> Result<(), Fail> {
         let mut bytes = vec![in rt.alloc(); 0u8; 512]?;
         let mut d = Fuse::new(PlainImage::new(bytes.as_mut_slice(), [None; 4]));
         d.set(2);
-        assert_eq!(rt; write(&mut d, 1, 1), [1, 1, 4, 0]);
-        assert_eq!(rt; write(&mut d, 0, 1), OK);
-        assert_eq!(rt; read(&mut d, 0), OK);
-        assert_eq!(rt; power(&d), OK);
-        assert_eq!(rt; flush(&mut d), OK);
-        assert_eq!(rt; power(&d), [3, 0, 4, 0]);
+        assert_eq!(rt; write(&mut d, 1, 1), Err([1, 1, 4, 0]));
+        assert_eq!(rt; write(&mut d, 0, 1), Ok(()));
+        assert_eq!(rt; read(&mut d, 0), Ok(()));
+        assert_eq!(rt; power(&d), Ok(()));
+        assert_eq!(rt; flush(&mut d), Ok(()));
+        assert_eq!(rt; power(&d), Err([3, 0, 4, 0]));
         d.set(5);
-        assert_eq!(rt; flush(&mut d), [3, 0, 4, 0]);
-        assert_eq!(rt; read(&mut d, 7), [1, 7, 4, 0]);
+        assert_eq!(rt; flush(&mut d), Err([3, 0, 4, 0]));
+        assert_eq!(rt; read(&mut d, 7), Err([1, 7, 4, 0]));
         d.cut(&[]);
-        assert_eq!(rt; flush(&mut d), OK);
+        assert_eq!(rt; flush(&mut d), Ok(()));
         assert_eq!(rt; last(&mut d, 0), 1);
         Ok(())
     }
@@ -39,12 +37,12 @@ mod tests {
         let second = Fuse::new(PlainImage::new(b.as_mut_slice(), [Some(2), Some(0), None, None]));
         let mut d = Fuse::new(Mirror::new(first, second));
         assert_eq!(rt; d.size(), 3);
-        assert_eq!(rt; read(&mut d, 3), [1, 3, 4, 0]);
-        assert_eq!(rt; read(&mut d, 2), [2, 2, 2, 2]);
-        assert_eq!(rt; write(&mut d, 2, 9), [2, 2, 2, 2]);
-        assert_eq!(rt; write(&mut d, 0, 11), OK);
-        assert_eq!(rt; write(&mut d, 0, 12), OK);
-        assert_eq!(rt; write(&mut d, 1, 21), OK);
+        assert_eq!(rt; read(&mut d, 3), Err([1, 3, 4, 0]));
+        assert_eq!(rt; read(&mut d, 2), Err([2, 2, 2, 2]));
+        assert_eq!(rt; write(&mut d, 2, 9), Err([2, 2, 2, 2]));
+        assert_eq!(rt; write(&mut d, 0, 11), Ok(()));
+        assert_eq!(rt; write(&mut d, 0, 12), Ok(()));
+        assert_eq!(rt; write(&mut d, 1, 21), Ok(()));
         assert_eq!(rt; last(&mut d, 0), 12);
         assert_eq!(rt; last(&mut d, 1), 21);
         d.cut(&[1]);
@@ -62,13 +60,13 @@ mod tests {
         let mut second = Fuse::new(PlainImage::new(b.as_mut_slice(), [None; 4]));
         second.set(1);
         let mut d = Mirror::new(first, second);
-        assert_eq!(rt; write(&mut d, 0, 3), OK);
-        assert_eq!(rt; power(&d), [3, 0, 4, 1]);
-        assert_eq!(rt; write(&mut d, 0, 4), [3, 0, 4, 1]);
-        assert_eq!(rt; read(&mut d, 5), [1, 5, 3, 0]);
-        assert_eq!(rt; flush(&mut d), [3, 0, 4, 1]);
+        assert_eq!(rt; write(&mut d, 0, 3), Ok(()));
+        assert_eq!(rt; power(&d), Err([3, 0, 4, 1]));
+        assert_eq!(rt; write(&mut d, 0, 4), Err([3, 0, 4, 1]));
+        assert_eq!(rt; read(&mut d, 5), Err([1, 5, 3, 0]));
+        assert_eq!(rt; flush(&mut d), Err([3, 0, 4, 1]));
         d.cut(&[]);
-        assert_eq!(rt; power(&d), OK);
+        assert_eq!(rt; power(&d), Ok(()));
         assert_eq!(rt; last(&mut d, 0), 3);
         Ok(())
     }
@@ -91,13 +89,13 @@ mod tests {
         );
         let mut d = Mirror::new(left, right);
         assert_eq!(rt; d.size(), 1);
-        assert_eq!(rt; write(&mut d, 0, 1), OK);
-        assert_eq!(rt; write(&mut d, 0, 2), OK);
-        assert_eq!(rt; write(&mut d, 1, 2), [1, 1, 3, 0]);
+        assert_eq!(rt; write(&mut d, 0, 1), Ok(()));
+        assert_eq!(rt; write(&mut d, 0, 2), Ok(()));
+        assert_eq!(rt; write(&mut d, 1, 2), Err([1, 1, 3, 0]));
         d.cut(&[7]);
         assert_eq!(rt; last(&mut d, 0), 0);
-        assert_eq!(rt; write(&mut d, 0, 4), OK);
-        assert_eq!(rt; flush(&mut d), OK);
+        assert_eq!(rt; write(&mut d, 0, 4), Ok(()));
+        assert_eq!(rt; flush(&mut d), Ok(()));
         d.cut(&[]);
         assert_eq!(rt; last(&mut d, 0), 4);
         Ok(())
@@ -115,10 +113,10 @@ mod tests {
             PlainImage::new(b.as_mut_slice(), sick),
         );
         let mut d = Mirror::new(left, PlainImage::new(c.as_mut_slice(), sick));
-        assert_eq!(rt; read(&mut d, 0), [2, 0, 2, 2]);
-        assert_eq!(rt; write(&mut d, 0, 1), [2, 0, 2, 2]);
+        assert_eq!(rt; read(&mut d, 0), Err([2, 0, 2, 2]));
+        assert_eq!(rt; write(&mut d, 0, 1), Err([2, 0, 2, 2]));
         assert_eq!(rt; last(&mut d, 0), 255);
-        assert_eq!(rt; flush(&mut d), OK);
+        assert_eq!(rt; flush(&mut d), Ok(()));
         Ok(())
     }
 }

@@ -1,32 +1,30 @@
-// Calls of a device, with answers that are easy to compare.
+// Calls of a device, with faults by their numbers.
 #[cfg(test)]
 pub mod calls {
     use device::{Device, Fault};
 
-    // The four numbers of a fault, or zeros where the call was accepted.
-    fn told(answer: Result<(), Fault>) -> [u32; 4] {
-        match answer {
-            Ok(()) => [0; 4],
-            Err(fault) => fault.into(),
-        }
+    // An answer whose fault is told by its four numbers: cause, sector, layer and depth.
+    pub type Told = Result<(), [u32; 4]>;
+
+    fn told(answer: Result<(), Fault>) -> Told {
+        answer.map_err(<[u32; 4]>::from)
     }
 
-    // The four numbers of the fault of power that is off, or zeros.
-    pub fn power<D: Device>(d: &D) -> [u32; 4] {
+    pub fn power<D: Device>(d: &D) -> Told {
         told(d.power())
     }
 
     // Writes 512 equal bytes.
-    pub fn write<D: Device>(d: &mut D, sector: u32, byte: u8) -> [u32; 4] {
+    pub fn write<D: Device>(d: &mut D, sector: u32, byte: u8) -> Told {
         told(d.write(sector, &[byte; 512]))
     }
 
-    pub fn flush<D: Device>(d: &mut D) -> [u32; 4] {
+    pub fn flush<D: Device>(d: &mut D) -> Told {
         told(d.flush())
     }
 
     // What a read answers.
-    pub fn read<D: Device>(d: &mut D, sector: u32) -> [u32; 4] {
+    pub fn read<D: Device>(d: &mut D, sector: u32) -> Told {
         let mut buffer = [0; 512];
         told(d.read(sector, &mut buffer))
     }

@@ -57,8 +57,9 @@ fn take_byte(c: u32, b: u8) -> u32
     entry(0, (z % 256) as u8) ^ (z >> 8)
 }
 
-// The register after bytes, one by one. (This and the two below that take a register and bytes are three ways to one result: the
-// pair is what a fold takes, and no plainer as a struct.)
+// The register after bytes, one by one.
+// `take_bytes`, `update` and `update_long` are three ways to one result, each for another length; register and bytes are what a fold
+// takes, and no plainer as a struct.
 fn take_bytes(start: u32, bytes: &[u8]) -> u32
     ensures { result ≡ register start bytes.now }
 {
@@ -69,7 +70,7 @@ fn take_bytes(start: u32, bytes: &[u8]) -> u32
     c
 }
 
-// The register after bytes from 0: what each of them adds stands in its own table.
+// The register after at most eight bytes, begun at 0: what each of them adds stands in its own table.
 fn shift<const N: usize>(bytes: &[u8; N]) -> u32
     requires { N ≤ 8 }
     ensures { result ≡ register 0 bytes.now }
@@ -110,7 +111,7 @@ fn load(chunk: &[u8; 8]) -> u64
     u64::from_le_bytes(*chunk)
 }
 
-// The window after one word, which stands for the register after it as long as 38 bytes and more follow.
+// The window after one word, which stands for the register after it if at least 38 bytes follow.
 fn advance(s: &Window, word: u64) -> Window
     ensures { (chunk rest : List ℕ) → Loads chunk word → 38 ≤ length rest → register (value result) rest ≡ register (value s.now) (chunk ++ rest) }
 {
@@ -125,7 +126,7 @@ fn advance(s: &Window, word: u64) -> Window
     ]
 }
 
-// The window after many words, which stands for the register after them as long as 38 bytes and more follow.
+// The window after many words, which stands for the register after them if at least 38 bytes follow.
 fn fold(start: Window, words: &[[u8; 8]]) -> Window
     ensures { (back : List ℕ) → 38 ≤ length back → register (value result) back ≡ register (value start) (flat_map (λ (w : List ℕ). w) words.now ++ back) }
 {
@@ -144,7 +145,7 @@ fn take_word(own: u64, c: u32, chunk: &[u8; 8]) -> u32
 }
 
 // The register after the window and the last bytes.
-// The words stand one by one: tried as a loop, it took 8 percent longer on 508 bytes, and zlib no longer twice as long as this.
+// The words stand one by one: a loop was tried and took 8 percent longer on 508 bytes.
 fn finish(s: &Window, back: &[u8]) -> u32
     requires { 40 ≤ length back.now }
     ensures { result ≡ register (value s.now) back.now }
@@ -159,7 +160,7 @@ fn finish(s: &Window, back: &[u8]) -> u32
     update(r, &back[40..])
 }
 
-// The register after 40 bytes and more.
+// The register after 40 bytes or more.
 fn update_long(start: u32, bytes: &[u8]) -> u32
     requires { 40 ≤ length bytes.now }
     ensures { result ≡ register start bytes.now }

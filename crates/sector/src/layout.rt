@@ -16,7 +16,8 @@ pub enum Kind {
     Opening = 6,
 }
 
-// The number that is stored for a kind.
+// The number that is stored for a kind. (Each such enum has its own two impls: none of our macros may write them, and a generic one
+// would be no plainer.)
 impl From<Kind> for u8 {
     ghost from_gives = { λ kind number. number ≡ kind_number kind };
 
@@ -56,7 +57,7 @@ pub struct Fields {
     pub track: u8,
     // elements in the payload
     pub count: u16,
-    // the number that format gave the whole recording
+    // the number that the recording got when its device was formatted
     pub sitting: u32,
     // the sector's own number
     pub place: u32,
@@ -66,7 +67,7 @@ pub struct Fields {
     pub b: u32,
 }
 
-// A sector's record: its numbers, and its payload where that stands.
+// A sector's record: its numbers, and its payload, which stays in the sector's bytes.
 #[derive(Clone, Copy)]
 pub struct Record<'a> {
     pub fields: Fields,
@@ -92,7 +93,7 @@ pub fn seal(fields: Fields, sector: &mut [u8; 512])
     put_check(sector);
 }
 
-// Writes the numbers before the payload.
+// Writes the numbers before the payload, one by one: their widths differ, so a loop over a list of places would be no plainer.
 fn put_fields(fields: Fields, sector: &mut [u8; 512])
     ensures body { take 508 sector.new ≡ field_bytes fields ++ payload_of sector.old }
     ensures known { IsKindNumber (slice_index sector.new 0) }

@@ -36,10 +36,7 @@ mod tests {
     // Writes the block over whatever the sector holds.
     fn block(sector: &mut [u8; 512]) {
         let mut payload = [0; 480];
-        payload[0] = 10;
-        payload[2] = 0xEC;
-        payload[3] = 0xFF;
-        payload[4] = 30;
+        payload[..6].copy_from_slice(&BLOCK_START[28..]);
         encode(
             Record {
                 fields: BLOCK,
@@ -54,7 +51,7 @@ mod tests {
         u32::from_le_bytes(*sector.last_chunk().unwrap())
     }
 
-    // Stores a kind and a check in the place of those that are there. The kind is a number, for some that are stored do not exist.
+    // Stores a kind and a check in the place of those that are there. The kind is a number, since some of those stored here do not exist.
     fn forge(sector: &mut [u8; 512], kind: u8, check: u32) {
         sector[0] = kind;
         sector[508..].copy_from_slice(&check.to_le_bytes());

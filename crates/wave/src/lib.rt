@@ -25,7 +25,7 @@ pub const LONGEST_FILE: usize = 44 + 2 * MOST_SAMPLES;
 pub enum Refusal {
     // it is not what an export writes
     #[error("not a sound that an export writes")]
-    NotWave,
+    NotWave = 21,
 }
 
 // The number that stands for a refusal.
@@ -33,9 +33,7 @@ impl From<Refusal> for u8 {
     ghost from_gives = { λ refusal number. number ≡ refusal_number refusal };
 
     fn from(refusal: Refusal) -> u8 {
-        match refusal {
-            Refusal::NotWave => 21,
-        }
+        refusal as u8
     }
 }
 
@@ -142,7 +140,7 @@ fn parse(file: &[u8]) -> Option<Wave<'_>>
         → IsSomeAnd result (λ w. (w.rate ≡ rate) × (w.samples.now ≡ samples)) }
 {
     let (head, samples) = file.split_first_chunk::<44>()?;
-    let rate = u32::from_le_bytes(*head[24..].first_chunk()?);
+    let rate = u32::from_le_bytes(*head[24..].first_chunk().unwrap());
     let wave = Wave { rate, samples };
     let count = u32::try_from(wave.count()).ok()?;
     (*head == header(rate, count)).then_some(wave)

@@ -12,7 +12,7 @@ use std::{env, fmt, io};
 use thiserror::Error;
 use wave::{LONGEST_FILE, Refusal};
 
-// The longest file that can be a sound, and one byte more, by which a longer file is told.
+// The longest file that can be a sound, and one byte more, by which a longer file shows.
 const ROOM: u64 = LONGEST_FILE as u64 + 1;
 
 // What a file holds whose bytes are a sound that an export writes.
@@ -52,6 +52,7 @@ enum Problem {
 }
 
 // A file that was read and refused.
+// By hand, and so is the next: the impl that `#[from]` writes promises nothing of its value.
 impl From<Refusal> for Problem {
     ghost from_gives = { λ refusal problem. problem ≡ Refused refusal };
 

@@ -1,6 +1,7 @@
 -- A file is cut after 44 bytes: where that fails or they are not the header of the rest, no export wrote it.
 use Rattle.std.proofs.Common.{◌≡◌, true, length, sym, ap, ◌∙◌, arith}
 use Rattle.std.proofs.lemmas.Bool.Decides.{Decides-eqb}
+use Rattle.std.proofs.lemmas.Option.{MatchOption-at_some}
 use Rattle.std.proofs.lemmas.Slice.Eq.{slice_eq-Decides}
 use Rattle.wave.specs.Export.{sample_count}
 use Rattle.wave.proofs.Files.{file_length, rest_is, rate_is, own_header, laid_out}
@@ -26,7 +27,7 @@ pub returns-clause-back : goal.returns-clause-back
 returns-clause-back c = λ rate samples ex.
     let told = c.in_ok-head.ensures.cases in
     let count_is : c.in_ok-count.count ≡ sample_count c.in_ok-head.samples.now = grind arith in
-    let rate_same = rate_is _ rate samples ex _ _ _ told.0 c.in_ok-first_chunk.ensures.cases.same c.from_le_bytes-rate.ensures in
+    let rate_same = rate_is _ rate samples ex _ _ _ told.0 (MatchOption-at_some _ _ _ c.unwrap.ensures c.first_chunk.ensures.cases).same c.from_le_bytes-rate.ensures in
     let rest_same = told.1 ∙ rest_is _ rate samples ex in
     let own = own_header _ rate samples ex _ _ _ _ told.0 told.1 rate_same count_is in
     let same = (slice_eq-Decides Decides-eqb _ _ _ c.eq.ensures).1 (own ∙ sym c.header.ensures) in
