@@ -2,7 +2,7 @@
 -- the number that bytes stand for.
 use Rattle.std.proofs.Common.{◌≡◌, ℕ, zero, suc, ◌+◌, ◌*◌, ◌/◌, ◌%◌, ◌^◌, ◌<◌, List, [], ◌∷◌, length, sym, refl, ap, ◌∙◌, subst, ap₂, pow-suc, arith}
 use Rattle.std.proofs.Math.Nat.{div-one, div-div-eq-div-mul}
-use Rattle.std.proofs.lemmas.Nat.{div_below, le_bytes_2, le_bytes_4, from_le_bytes-to_le_bytes_2, from_le_bytes-to_le_bytes_4}
+use Rattle.std.proofs.lemmas.Nat.{div_below, from_le_bytes-to_le_bytes_2, from_le_bytes-to_le_bytes_4}
 use Rattle.std.specs.Int.{w16, w32, byte_at, bytes_low_first, from_le_bytes}
 use Rattle.std.specs.Simd.Lanes.{number_l, digits_l}
 use Rattle.little_endian.specs.Little.{Bytes, le16, le32}
@@ -29,9 +29,6 @@ low_little (suc k) i z = ap₂ (λ (x : ℕ) (xs : List ℕ). x ∷ xs) (byte_is
 pub little_is : (k z : ℕ) → bytes_low_first 0 k z ≡ digits_l 256 k z
 little_is k z = low_little k 0 z ∙ ap (digits_l 256 k) (div-one z)
 
-pub number_le32 : (n : ℕ) → n < 4294967296 → number_l 256 (le32 n) ≡ n
-number_le32 n h = omega (arith, from_le_bytes-to_le_bytes_4 n h)
-
 -- bytes from bytes
 pub bytes_none : Bytes []
 bytes_none i = omega arith
@@ -43,15 +40,6 @@ bytes_cons x xs h hs (suc i) = hs i
 pub bytes_little : (k n : ℕ) → Bytes (digits_l 256 k n)
 bytes_little zero n = bytes_none
 bytes_little (suc k) n = bytes_cons (n % 256) (digits_l 256 k (n / 256)) (omega arith) (bytes_little k (n / 256))
-
--- what `u16::from_le_bytes` and `u32::from_le_bytes` answer has these bytes
-pub le16_of : (n p q : ℕ) → p < 256 → q < 256 → n ≡ p + q * 256 → le16 n ≡ p ∷ q ∷ []
-le16_of n p q hp hq e = le_bytes_2 (p ∷ q ∷ []) n refl (bytes_cons p (q ∷ []) hp (bytes_cons q [] hq bytes_none)) e
-
-pub le32_of : (n p q r s : ℕ) → p < 256 → q < 256 → r < 256 → s < 256 → n ≡ p + q * 256 + r * 65536 + s * 16777216 → le32 n ≡ p ∷ q ∷ r ∷ s ∷ []
-le32_of n p q r s hp hq hr hs e =
-    le_bytes_4 (p ∷ q ∷ r ∷ s ∷ []) n refl
-    (bytes_cons p (q ∷ r ∷ s ∷ []) hp (bytes_cons q (r ∷ s ∷ []) hq (bytes_cons r (s ∷ []) hr (bytes_cons s [] hs bytes_none)))) e
 
 -- numbers that fit are told apart by their bytes
 pub same_le16 : (m n : ℕ) → m < 65536 → n < 65536 → le16 m ≡ le16 n → m ≡ n

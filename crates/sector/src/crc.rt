@@ -138,6 +138,7 @@ fn fold(start: Window, words: &[[u8; 8]]) -> Window
 }
 
 // The register after eight bytes and a word of the window, where `c` is what the words below it have left.
+// Beside `take_four`, which has no word of the window to add: one for both would be no plainer.
 fn take_word(own: u64, c: u32, chunk: &[u8; 8]) -> u32
     ensures { Takes own c chunk.now result }
 {
