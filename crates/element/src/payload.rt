@@ -44,6 +44,15 @@ pub fn unpack<E: Element>(payload: &[u8], out: &mut [E]) -> usize
     ensures elements { out.new ≡ unpacked E.Element.value (width_of E.Element.KIND) result payload.now ++ drop result out.old }
     ensures back { (xs : List E) (rest : List ℕ) → AllPass E.Element.lawful xs → payload.now ≡ flat_map E.Element.bytes xs ++ rest → length xs ≤ result → take (length xs) out.new ≡ xs }
 {
+    fill(payload, out)
+}
+
+// Fills the slice chunk by chunk, until the chunks or the slice end.
+fn fill<E: Element>(payload: &[u8], out: &mut [E]) -> usize
+    ensures count { result ≡ min (length out.old) (length payload.now / width_of E.Element.KIND) }
+    ensures elements { out.new ≡ unpacked E.Element.value (width_of E.Element.KIND) result payload.now ++ drop result out.old }
+    ensures back { (xs : List E) (rest : List ℕ) → AllPass E.Element.lawful xs → payload.now ≡ flat_map E.Element.bytes xs ++ rest → length xs ≤ result → take (length xs) out.new ≡ xs }
+{
     // No `zip` of the two (tried): what is written through `iter_mut` is known after the loop under `enumerate`, and not under `zip`.
     let mut chunks = payload.chunks_exact(E::KIND.width());
     for (i, slot) in out.iter_mut().enumerate() {

@@ -3,7 +3,7 @@ use Rattle.std.proofs.lemmas.List.{drop-set-lt, take-append-drop}
 use Rattle.std.proofs.lemmas.Grind.{common_steps}
 use Rattle.element.specs.Kinds.{width_of}
 use Rattle.element.proofs.Unpacks.{read_more, read_back}
-use Rattle.element.proofs.payload.unpack.Goals as goal
+use Rattle.element.proofs.payload.fill.Goals as goal
 
 pub loop-i-preserved : goal.loop-i-preserved
 loop-i-preserved g c =

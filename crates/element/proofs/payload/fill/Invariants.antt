@@ -1,7 +1,7 @@
 use Rattle.std.proofs.Common.{◌≡◌, ◌+◌, ◌*◌, ◌++◌, ℕ, length, take, drop}
 use Rattle.element.specs.Kinds.{width_of}
 use Rattle.element.specs.Payload.{unpacked}
-use Rattle.element.proofs.payload.unpack.Given as goal
+use Rattle.element.proofs.payload.fill.Given as goal
 
 -- what is read so far and what the chunks that are left say are what the payload says
 abbrev pub invariant-loop-i : goal.invariant-loop-i
