@@ -90,7 +90,7 @@ impl Element for Mark {
     }
 }
 
-// Whether a point and an event exist.
+// Whether a point and an event exist, each by its number, as in a mark.
 pub fn is_stamp(point: u16, event: u8) -> bool
     ensures { result ≡ stamp_lawful point event }
 {

@@ -46,6 +46,7 @@ mod tests {
     fn a_plan_chooses(rt: HostRuntime) -> Result<(), Fail> {
         let mut bytes = vec![in rt.alloc(); 8u8; 1024]?;
         let mut d = QueuedImage::new(rt.alloc(), bytes.as_mut_slice(), [None; 4])?;
+        // The numbers are the contents that are written.
         for byte in 1..4u8 {
             assert_eq!(rt; write(&mut d, 0, byte), Ok(()));
             assert_eq!(rt; write(&mut d, 1, byte), Ok(()));
@@ -79,6 +80,7 @@ mod tests {
     fn the_oldest_settles_first(rt: HostRuntime) -> Result<(), Fail> {
         let mut bytes = vec![in rt.alloc(); 0u8; 512]?;
         let mut d = QueuedImage::new(rt.alloc(), bytes.as_mut_slice(), [None; 4])?;
+        // The numbers are the contents that are written.
         for byte in 1..18u8 {
             assert_eq!(rt; write(&mut d, 0, byte), Ok(()));
         }
