@@ -2,7 +2,8 @@
 #[cfg(test)]
 mod tests {
     use element::payload::{NoRoom, pack, parse, unpack};
-    use element::{Event, Kind, Mark};
+    use element::{Event, Kind, Mark, UnknownEvent, UnknownKind};
+    use std::test::Fail;
 
     const ALARM: Mark = Mark {
         tick: 1000,
@@ -44,5 +45,18 @@ mod tests {
         assert_eq!(rt; Kind::Sound.capacity(), 240);
         assert_eq!(rt; Kind::Mark.capacity(), 60);
         assert_eq!(rt; pack(&[1i16, 2], &mut [0; 3]), Err(NoRoom));
+    }
+
+    #[test]
+    fn errors_say_why(rt: HostRuntime) -> Result<(), Fail> {
+        assert_eq!(rt; Kind::try_from(3), Err(UnknownKind(3)));
+        assert_eq!(rt; Event::try_from(4), Err(UnknownEvent(4)));
+        let kind = format!(in rt.alloc(); "{}", UnknownKind(3))?;
+        assert!(rt; kind.as_str() == "no kind of element has number 3");
+        let event = format!(in rt.alloc(); "{}", UnknownEvent(4))?;
+        assert!(rt; event.as_str() == "no event has number 4");
+        let room = format!(in rt.alloc(); "{}", NoRoom)?;
+        assert!(rt; room.as_str() == "the payload has no room for the elements");
+        Ok(())
     }
 }
