@@ -1,18 +1,32 @@
 -- Elements read from bytes, one after the other.
-use Rattle.std.proofs.Common.{◌≡◌, ℕ, zero, suc, ◌+◌, ◌<◌, ◌≤◌, Bool, true, List, [], ◌∷◌, ◌++◌, length, take, drop, set, refl, ap, ◌∙◌, ap₂, append_assoc, arith}
-use Rattle.std.proofs.lemmas.List.{take_at, drop_at, take_more_set}
+use Rattle.std.proofs.Common.{◌≡◌, ℕ, zero, suc, ◌+◌, ◌*◌, ◌<◌, ◌≤◌, Bool, true, List, [], ◌∷◌, ◌++◌, length, get_or, take, drop, set, refl, sym, ap, ◌∙◌, ap₂, subst, zero-add, zero-mul, suc-add, suc-mul, append_assoc, drop-drop, arith}
+use Rattle.std.proofs.lemmas.List.{take_at, drop_at, drop_more}
+use Rattle.std.proofs.Math.Seq.{set-append_seam}
 use Rattle.std.proofs.lemmas.List.Elements.{All-head, All-tail}
 use Rattle.std.specs.List.{flat_map, AllPass}
 use Rattle.element.specs.Payload.{unpacked}
 
--- one element more was read, from the first bytes of those that were left
-pub read_more : {X : Type 0} (v : List ℕ → X) (w i : ℕ) (out : List X) (bs left chunk after : List ℕ) (x : X)
-    → i < length out → left ≡ chunk ++ after → length chunk ≡ w → x ≡ v chunk → ((n : ℕ) → take i out ++ unpacked v w n left ≡ unpacked v w (i + n) bs)
-    → (n : ℕ) → take (i + 1) (set out i x) ++ unpacked v w n after ≡ unpacked v w (i + 1 + n) bs
-read_more {X} v w i out bs left chunk after x h e l ex r n =
-    let first : take w left ≡ chunk = ap (take w) e ∙ take_at chunk after w l in
-    let rest : drop w left ≡ after = ap (drop w) e ∙ drop_at chunk after w l in
-    rw (take_more_set out i x h, append_assoc (take i out) (x ∷ []) (unpacked v w n after), ex, ← first, ← rest) (r (suc n) ∙ ap (λ (k : ℕ). unpacked v w k bs) (omega arith))
+module _ {X : Type 0} (v : List ℕ → X) (w : ℕ) where
+  pub length-unpacked : (n : ℕ) (bs : List ℕ) → length (unpacked v w n bs) ≡ n
+  length-unpacked zero bs = refl
+  length-unpacked (suc n) bs = ap suc (length-unpacked n (drop w bs))
+
+  -- n more come from the bytes behind those of the first m
+  pub unpacked_append : (m n : ℕ) (bs : List ℕ) → unpacked v w (m + n) bs ≡ unpacked v w m bs ++ unpacked v w n (drop (m * w) bs)
+  unpacked_append zero n bs = rw (zero-add, zero-mul)
+  unpacked_append (suc m) n bs =
+      let e : drop (m * w) (drop w bs) ≡ drop (suc m * w) bs = drop-drop (m * w) w bs ∙ ap (λ (k : ℕ). drop k bs) (omega (arith, suc-mul m w)) in
+      rw (suc-add, ← e) (ap (λ (xs : List X). v (take w bs) ∷ xs) (unpacked_append m n (drop w bs)))
+
+  -- a slice of which the first i were filled, once the next was set to what the next bytes say
+  pub filled_more : (i : ℕ) (bs left chunk after : List ℕ) (o out : List X) (x : X) → out ≡ unpacked v w i bs ++ drop i o → i < length o → left ≡ drop (i * w) bs → left ≡ chunk ++ after → length chunk ≡ w → x ≡ v chunk
+      → set out i x ≡ unpacked v w (i + 1) bs ++ drop (i + 1) o
+  filled_more i bs left chunk after o out x f h l e wide ex =
+      let U : List X = unpacked v w i bs in
+      let D : List X = drop (i + 1) o in
+      let first : take w (drop (i * w) bs) ≡ chunk = ap (take w) (sym l ∙ e) ∙ take_at chunk after w wide in
+      let seam : set (U ++ (get_or o i x ∷ D)) i x ≡ U ++ (x ∷ D) = subst (λ (k : ℕ). set (U ++ (get_or o i x ∷ D)) k x ≡ U ++ (x ∷ D)) (length-unpacked i bs) (set-append_seam U (get_or o i x) D x) in
+      ap (λ (l : List X). set l i x) (f ∙ ap (λ (r : List X). U ++ r) (drop_more o i x h)) ∙ seam ∙ rw (unpacked_append i 1 bs, first, ← ex, append_assoc)
 
 -- elements that were packed are read as they were
 module _ {X : Type 0} (f : X → List ℕ) (v : List ℕ → X) (ok : X → Bool) (w : ℕ) (wide : (x : X) → length (f x) ≡ w) (told : (x : X) → ok x ≡ true → v (f x) ≡ x) where

@@ -1,11 +1,12 @@
 // Alarm marks.
 ghost use Rattle.std.specs.Prelude.{◌≡◌, refl};
+ghost use Rattle.std.proofs.Common.{lit<, lit≤};
 ghost use Rattle.element.specs.Marks.{event_number, stamp_lawful, mark_lawful, mark_bytes, mark_of, DecodesEvent};
 ghost use Rattle.element.specs.declared.kind.Kind.TheVariants.{Mark as MarkKind};
 ghost use Rattle.element.specs.Stamps;
 
-use crate::Element;
 use crate::kind::Kind;
+use crate::{Cell, Element};
 use thiserror::Error;
 
 // What happened at a measuring point.
@@ -54,6 +55,26 @@ pub struct Mark {
     pub event: u8,
 }
 
+impl Cell for Mark {
+    ghost WIDTH = { 8 };
+
+    ghost value = { mark_of };
+
+    ghost nonzero = { lit< tt };
+
+    ghost within_payload = { lit≤ tt };
+
+    const WIDTH: usize = 8;
+
+    fn get(from: &[u8]) -> Mark {
+        Mark {
+            tick: u32::from_le_bytes(from[..4].try_into().unwrap()),
+            point: u16::from_le_bytes(from[4..6].try_into().unwrap()),
+            event: from[6],
+        }
+    }
+}
+
 impl Element for Mark {
     ghost KIND = { MarkKind };
 
@@ -61,7 +82,7 @@ impl Element for Mark {
 
     ghost bytes = { mark_bytes };
 
-    ghost value = { mark_of };
+    ghost same_width = { refl };
 
     ghost wide = { λ _. refl };
 
@@ -79,14 +100,6 @@ impl Element for Mark {
         let [t0, t1, t2, t3] = self.tick.to_le_bytes();
         let [p0, p1] = self.point.to_le_bytes();
         out.copy_from_slice(&[t0, t1, t2, t3, p0, p1, self.event, 0]);
-    }
-
-    fn get(from: &[u8]) -> Mark {
-        Mark {
-            tick: u32::from_le_bytes(from[..4].try_into().unwrap()),
-            point: u16::from_le_bytes(from[4..6].try_into().unwrap()),
-            event: from[6],
-        }
     }
 }
 

@@ -4,7 +4,7 @@ ghost use Rattle.std.specs.List.{flat_map, AllPass};
 ghost use Rattle.element.specs.Kinds.{width_of};
 ghost use Rattle.element.specs.Payload.{unpacked};
 
-use crate::Element;
+use crate::{Cell, Element};
 use thiserror::Error;
 
 // More elements than the payload has room for.
@@ -41,25 +41,24 @@ pub fn pack<E: Element>(elements: &[E], payload: &mut [u8]) -> Result<(), NoRoom
 // Fills the slice with the elements that the front of the payload holds, as far as both reach; returns how many.
 pub fn unpack<E: Element>(payload: &[u8], out: &mut [E]) -> usize
     ensures count { result ≡ min (length out.old) (length payload.now / width_of E.Element.KIND) }
-    ensures elements { out.new ≡ unpacked E.Element.value (width_of E.Element.KIND) result payload.now ++ drop result out.old }
+    ensures elements { out.new ≡ unpacked E.Cell.value (width_of E.Element.KIND) result payload.now ++ drop result out.old }
     ensures back { (xs : List E) (rest : List ℕ) → AllPass E.Element.lawful xs → payload.now ≡ flat_map E.Element.bytes xs ++ rest → length xs ≤ result → take (length xs) out.new ≡ xs }
 {
     fill(payload, out)
 }
 
-// Fills the slice chunk by chunk, until the chunks or the slice end.
-fn fill<E: Element>(payload: &[u8], out: &mut [E]) -> usize
-    ensures count { result ≡ min (length out.old) (length payload.now / width_of E.Element.KIND) }
-    ensures elements { out.new ≡ unpacked E.Element.value (width_of E.Element.KIND) result payload.now ++ drop result out.old }
-    ensures back { (xs : List E) (rest : List ℕ) → AllPass E.Element.lawful xs → payload.now ≡ flat_map E.Element.bytes xs ++ rest → length xs ≤ result → take (length xs) out.new ≡ xs }
+// Fills the slice with the cells that the front of the payload holds, as far as both reach; returns how many.
+pub fn fill<C: Cell>(payload: &[u8], out: &mut [C]) -> usize
+    ensures count { result ≡ min (length out.old) (length payload.now / C.Cell.WIDTH) }
+    ensures elements { out.new ≡ unpacked C.Cell.value C.Cell.WIDTH result payload.now ++ drop result out.old }
 {
     // No `zip` of the two (tried): what is written through `iter_mut` is known after the loop under `enumerate`, and not under `zip`.
-    let mut chunks = payload.chunks_exact(E::KIND.width());
+    let mut chunks = payload.chunks_exact(C::WIDTH);
     for (i, slot) in out.iter_mut().enumerate() {
         let Some(bytes) = chunks.next() else {
             return i;
         };
-        *slot = E::get(bytes);
+        *slot = C::get(bytes);
     }
     out.len()
 }

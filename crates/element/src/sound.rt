@@ -1,11 +1,28 @@
 // Sound: a sample is an i16.
 ghost use Rattle.std.specs.Prelude.{refl};
+ghost use Rattle.std.proofs.Common.{lit<, lit≤};
 ghost use Rattle.element.specs.Sounds.{sample_lawful, sample_bytes, sample_of};
 ghost use Rattle.element.specs.declared.kind.Kind.TheVariants.{Sound};
 ghost use Rattle.element.specs.Samples;
 
-use crate::Element;
 use crate::kind::Kind;
+use crate::{Cell, Element};
+
+impl Cell for i16 {
+    ghost WIDTH = { 2 };
+
+    ghost value = { sample_of };
+
+    ghost nonzero = { lit< tt };
+
+    ghost within_payload = { lit≤ tt };
+
+    const WIDTH: usize = 2;
+
+    fn get(from: &[u8]) -> i16 {
+        i16::from_le_bytes(from.try_into().unwrap())
+    }
+}
 
 impl Element for i16 {
     ghost KIND = { Sound };
@@ -14,7 +31,7 @@ impl Element for i16 {
 
     ghost bytes = { sample_bytes };
 
-    ghost value = { sample_of };
+    ghost same_width = { refl };
 
     ghost wide = { λ _. refl };
 
@@ -30,9 +47,5 @@ impl Element for i16 {
 
     fn put(self, out: &mut [u8]) {
         out.copy_from_slice(&self.to_le_bytes());
-    }
-
-    fn get(from: &[u8]) -> i16 {
-        i16::from_le_bytes(from.try_into().unwrap())
     }
 }
