@@ -1,0 +1,11 @@
+pub mod States
+pub mod Changed
+pub mod Rules
+pub mod Ends
+pub mod Keeps
+pub mod Steps
+pub mod Ordered
+pub mod Cells
+pub mod Paints
+pub mod Blanks
+pub mod Bounds
