@@ -1,7 +1,7 @@
 // Elements and the bytes that the format gives them.
 #[cfg(test)]
 mod tests {
-    use element::payload::{NoRoom, pack, parse, unpack};
+    use element::payload::{NoRoom, fill, pack, parse, unpack};
     use element::{Event, Kind, Mark, UnknownEvent, UnknownKind};
     use std::test::Fail;
 
@@ -19,6 +19,13 @@ mod tests {
         let mut samples = [0i16; 2];
         assert_eq!(rt; unpack(&payload, &mut samples), 2);
         assert_eq!(rt; samples[0], -32_768);
+    }
+
+    #[test]
+    fn samples_as_bytes(rt: HostRuntime) {
+        let mut bytes = [7u8; 5];
+        assert_eq!(rt; fill(b"\x00\x80\xFF\x7F", &mut bytes), 4);
+        assert!(rt; &bytes == b"\x00\x80\xFF\x7F\x07");
     }
 
     #[test]

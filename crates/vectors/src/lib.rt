@@ -4,5 +4,6 @@
 
 mod checks;
 mod elements;
+mod journals;
 mod sectors;
 mod waves;

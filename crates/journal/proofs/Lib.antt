@@ -1,0 +1,10 @@
+pub mod Payloads
+pub mod Headers
+pub mod Tables
+pub mod Within
+pub mod InStep
+pub mod Absorbs
+pub mod Strokes
+pub mod Fills
+pub mod Sectors
+pub mod Shows
