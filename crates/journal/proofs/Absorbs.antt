@@ -20,7 +20,7 @@ use Rattle.journal.proofs.Within.{fields_fit}
 use Rattle.journal.proofs.InStep.{follows_session, follows_log, fields_same, in_step_after}
 
 -- the payload of a sector's bytes is what they were made of
-pub payload_told : (f : Fields) (p sector : List ℕ) → length sector ≡ 512 → sector ≡ sector_bytes f p → (length p ≡ 480) × (payload_of sector ≡ p)
+payload_told : (f : Fields) (p sector : List ℕ) → length sector ≡ 512 → sector ≡ sector_bytes f p → (length p ≡ 480) × (payload_of sector ≡ p)
 unfolding field_bytes
 payload_told f p sector l e =
     let long = simp length-append at (sym (ap length e) ∙ l) in

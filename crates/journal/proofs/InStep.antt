@@ -33,6 +33,7 @@ module _ (s : Session) (h : Log) (i : InStep s h) where
   pub rows_same : rows h ≡ table_of s
   rows_same = fun_ext (λ k. sym (i.rows k))
 
+  -- and so do the places at which the tracks end
   ends_same : log_ends h ≡ session_ends s
   ends_same = fun_ext (λ t. ends h (table_run s.header h i.run) t ∙ ap₂ (λ (R : ℕ → Row) (n : ℕ). end_of R t n) rows_same (sym i.count))
 
@@ -57,10 +58,10 @@ module _ (s : Session) (h : Log) (i : InStep s h) where
 
   -- the numbers of an entry's sector
   pub fields_same : (o : Outline) → entry_fields s.header (next_place h) (epoch h) (count h) (rows h) o ≡ session_fields s o
-  fields_same o = let
-      e : entry_fields s.header (next_place h) (epoch h) (count h) (rows h) o ≡ entry_fields s.header (suc s.entries) s.epoch s.table.inner.count (table_of s) o =
+  fields_same o =
+      let same : entry_fields s.header (next_place h) (epoch h) (count h) (rows h) o ≡ entry_fields s.header (suc s.entries) s.epoch s.table.inner.count (table_of s) o =
       as_session (λ m ep n E R. entry_fields s.header (next_place h) (epoch h) (count h) (rows h) o ≡ entry_fields s.header (suc m) ep n R o) refl in
-      e ∙ ap (λ (p : ℕ). entry_fields s.header p s.epoch s.table.inner.count (table_of s) o) (omega arith)
+      same ∙ ap (λ (p : ℕ). entry_fields s.header p s.epoch s.table.inner.count (table_of s) o) (omega arith)
 
   -- a session to which the entry was added is in step with the log and the entry
   pub in_step_after : (s' : Session) (e : LogEntry) → Admits s.header h e → Adds s (outline e) s' → InStep s' (e ∷ h)
@@ -73,7 +74,7 @@ module _ (s : Session) (h : Log) (i : InStep s h) where
   }
     where
       next_row : (k : ℕ) → next_rows (s.entries + 1) s.table.inner.count (table_of s) (outline e) k ≡ next_rows (next_place h) (count h) (rows h) (outline e) k
-      next_row k = let
-          b : next_rows (suc s.entries) s.table.inner.count (table_of s) (outline e) k ≡ next_rows (next_place h) (count h) (rows h) (outline e) k =
+      next_row k =
+          let same : next_rows (suc s.entries) s.table.inner.count (table_of s) (outline e) k ≡ next_rows (next_place h) (count h) (rows h) (outline e) k =
           as_session (λ m ep n E R. next_rows (suc m) n R (outline e) k ≡ next_rows (next_place h) (count h) (rows h) (outline e) k) refl in
-          ap (λ (p : ℕ). next_rows p s.table.inner.count (table_of s) (outline e) k) (omega arith) ∙ b
+          ap (λ (p : ℕ). next_rows p s.table.inner.count (table_of s) (outline e) k) (omega arith) ∙ same

@@ -27,7 +27,7 @@ capacity_small Sound = omega arith
 capacity_small Mark = omega arith
 
 -- a track ends at or before a place that no row is beyond
-pub end_within : (R : ℕ → Row) (b : ℕ) → ((k : ℕ) → (R k).position + (R k).len ≤ b) → (t n : ℕ) → end_of R t n ≤ b
+end_within : (R : ℕ → Row) (b : ℕ) → ((k : ℕ) → (R k).position + (R k).len ≤ b) → (t n : ℕ) → end_of R t n ≤ b
 end_within R b h t zero = omega arith
 end_within R b h t (suc n) =
     let i = end_within R b h t n in

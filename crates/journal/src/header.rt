@@ -16,7 +16,7 @@ pub const LOWEST_RATE: u32 = 8_000;
 pub const HIGHEST_RATE: u32 = 48_000;
 
 // How many tracks a recording can have.
-const MOST_TRACKS: usize = 8;
+pub const MOST_TRACKS: usize = 8;
 
 // What a header says.
 #[derive(Clone, Copy, PartialEq, Eq, Debug)]

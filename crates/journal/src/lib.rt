@@ -9,5 +9,6 @@ mod session;
 mod table;
 
 pub use examples::worked_examples;
-pub use header::Header;
+pub use header::{HIGHEST_RATE, Header, LOWEST_RATE, MOST_TRACKS};
 pub use session::Session;
+pub use table::MOST_TAKES;

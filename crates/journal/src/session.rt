@@ -6,7 +6,7 @@ ghost use Rattle.journal.specs.Log.{Starts, outline_in};
 
 use crate::header::Header;
 use crate::payload::{holds, is_zero};
-use crate::table::Table;
+use crate::table::{MOST_TAKES, Table};
 use sector::{Fields, Kind, Record, decode};
 use takes::{Outline, Row, State};
 
@@ -235,7 +235,7 @@ impl Session {
             Outline::Begin { track, position } => {
                 !self.table.has_open(track)
                     && u64::from(position) <= self.table.end_of(track)
-                    && self.table.count() < 64
+                    && (self.table.count() as usize) < MOST_TAKES
             }
             Outline::Block { take, .. } | Outline::Trailer { take } => {
                 self.table.row(take).state == State::Open

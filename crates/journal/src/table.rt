@@ -10,7 +10,7 @@ ghost use Rattle.journal.specs.Rows.{blank_row, row_at, Steps};
 use takes::{Outline, Row, State};
 
 // How many takes a recording can have.
-const MOST_TAKES: usize = 64;
+pub const MOST_TAKES: usize = 64;
 
 // What stands for a number that no take has.
 const BLANK: Row = Row {
