@@ -1,0 +1,5 @@
+pub mod Numbers
+pub mod Said
+pub mod Meaning
+pub mod Commands
+pub mod Grammar
