@@ -1,0 +1,7 @@
+pub mod Follows
+pub mod Decides
+pub mod Packs
+pub mod Devices
+pub mod Search
+pub mod Plays
+pub mod Blanks

@@ -1,0 +1,9 @@
+pub mod Refusals
+pub mod Answers
+pub mod Devices
+pub mod Entries
+pub mod Formats
+pub mod Mounts
+pub mod Panel
+pub mod Runs
+pub mod Plays
