@@ -1,0 +1,3 @@
+pub mod Answers
+pub mod Text
+pub mod Desks

@@ -1,0 +1,143 @@
+// The recorder that a script works, and its commands.
+ghost use Rattle.std.specs.Prelude.{◌≡◌, map, take, IfOk};
+ghost use Rattle.std.specs.Result.{result_map_both};
+ghost use Rattle.element.specs.Kinds.{kind_number};
+ghost use Rattle.layers.specs.Fused.{unset, fuse_layer, fuse_meaning};
+ghost use Rattle.script.specs.Commands.{said};
+ghost use Rattle.script.specs.Meaning.{meaning};
+ghost use Rattle.recorder.specs.declared.State.TheVariants.{Unmounted};
+ghost use Rattle.recorder.specs.Panel.{kind_on};
+ghost use Rattle.recorder.specs.Plays.{Plays};
+ghost use Rattle.desk.specs.Desks.{Does, Meant, Played, PowerCut, TrackPlayed};
+
+use crate::answer::Answer;
+use device::CuttableDevice;
+use element::{Element, Kind, Mark};
+use layers::Fuse;
+use recorder::{Failed, Recorder};
+use script::Command;
+use std::alloc::{AllocError, Global};
+
+// How many elements of a track are played at most.
+const MOST_PLAYED: usize = 512;
+
+// What a slice holds before marks are played into it.
+const NO_MARK: Mark = Mark {
+    tick: 0,
+    point: 0,
+    event: 0,
+};
+
+// A recorder over a device with a fuse.
+#[derive(Drop)]
+pub struct Desk<D> {
+    recorder: Recorder<Fuse<D>>,
+}
+
+impl<D: CuttableDevice + Drop> Desk<D> {
+    // A recorder that is not mounted, and a fuse that is not set.
+    pub fn new(device: D) -> Desk<D>
+        ensures { result.recorder ≡ record { device = record { counter = unset; inner = device }; state = Unmounted } }
+    {
+        Desk {
+            recorder: Recorder::new(Fuse::new(device)),
+        }
+    }
+
+    // Does what the line means, if it means anything. The desk is handed back, since after a cut it has another recorder.
+    pub fn answer(self, alloc: Global, line: &[u8]) -> Result<(Desk<D>, Answer), AllocError>
+        ensures { IfOk result (λ made. Meant D.Device.meaning D.CuttableDevice.images D.CuttableDevice.below self.recorder (meaning line.now) made.1 made.0.recorder) }
+    {
+        match script::parse(alloc, line)? {
+            Some(command) => self.obey(alloc, command),
+            None => Ok((self, Answer::Bad)),
+        }
+    }
+
+    // Does the command.
+    fn obey(mut self, alloc: Global, command: Command) -> Result<(Desk<D>, Answer), AllocError>
+        ensures { IfOk result (λ made. Does D.Device.meaning D.CuttableDevice.images D.CuttableDevice.below self.recorder (said command) made.1 made.0.recorder) }
+    {
+        let answer = match command {
+            Command::Format {
+                kinds,
+                rate,
+                sitting,
+            } => {
+                let kinds = numbers_of(alloc, &kinds)?;
+                self.recorder.format(&kinds, rate, sitting).into()
+            }
+            Command::Mount => self.recorder.mount().into(),
+            Command::Arm => self.recorder.arm().into(),
+            Command::Begin { track, position } => self.recorder.begin(track, position).into(),
+            Command::Sound { take, samples } => self.recorder.record(take, &samples).into(),
+            Command::Mark { take, mark } => self.recorder.record(take, &[mark]).into(),
+            Command::End { take } => self.recorder.end(take).into(),
+            Command::Withdraw { track } => self.recorder.withdraw(track).into(),
+            Command::Play { track } => self.play(alloc, track)?,
+            Command::Save => self.recorder.save().into(),
+            Command::Cut { plan } => return Ok((self.cut(&plan), Answer::Cut)),
+            Command::Fuse { count } => {
+                self.recorder.device.set(count);
+                Answer::Done
+            }
+        };
+        Ok((self, answer))
+    }
+
+    // Cuts the power, and goes on with a new recorder over what was left.
+    fn cut(self, plan: &[u8]) -> Desk<D>
+        ensures { PowerCut D.Device.meaning D.CuttableDevice.images D.CuttableDevice.below plan.now self.recorder result.recorder }
+    {
+        let mut device = self.recorder.into_device();
+        device.cut(plan);
+        Desk {
+            recorder: Recorder::new(device),
+        }
+    }
+
+    // Plays a track from its start. A track that does not exist is asked for sound, and refused.
+    fn play(&mut self, alloc: Global, track: u8) -> Result<Answer, AllocError>
+        ensures { IfOk result (λ answer. TrackPlayed D.Device.meaning (kind_on self.old.recorder.state track) self.old.recorder track answer self.new.recorder) }
+    {
+        match self.recorder.kind(track) {
+            Some(Kind::Mark) => Ok(
+                self.played(alloc, track, &mut [NO_MARK; MOST_PLAYED])?
+                    .map_or_else(Answer::from, Answer::Marks),
+            ),
+            _ => Ok(
+                self.played(alloc, track, &mut [0i16; MOST_PLAYED])?
+                    .map_or_else(Answer::from, Answer::Sound),
+            ),
+        }
+    }
+
+    // Plays a track from its start into the slice, and hands out what was played.
+    fn played<E: Element>(
+        &mut self,
+        alloc: Global,
+        track: u8,
+        slice: &mut [E],
+    ) -> Result<Result<Vec<E>, Failed>, AllocError>
+        ensures { IfOk result (λ found. Played (λ r out. Plays fuse_layer E.Element.KIND E.Cell.value E.Cell.WIDTH self.old.recorder.state (fuse_meaning D.Device.meaning self.old.recorder.device) track 0 slice.old r self.new.recorder.state (fuse_meaning D.Device.meaning self.new.recorder.device) out) (result_map_both (λ elements. elements.items) (λ why. why) found)) }
+    {
+        match self.recorder.play(track, 0, slice) {
+            Ok(count) => Ok(Ok(first(alloc, slice, count)?)),
+            Err(failed) => Ok(Err(failed)),
+        }
+    }
+}
+
+// The first elements of a slice.
+fn first<E: Copy>(alloc: Global, slice: &[E], count: usize) -> Result<Vec<E>, AllocError>
+    ensures { IfOk result (λ elements. elements.items ≡ take count slice.now) }
+{
+    slice.iter().take(count).copied().collect(alloc)
+}
+
+// The numbers of the kinds.
+fn numbers_of(alloc: Global, kinds: &[Kind]) -> Result<Vec<u8>, AllocError>
+    ensures { IfOk result (λ numbers. numbers.items ≡ map kind_number kinds.now) }
+{
+    kinds.iter().map(|kind| u8::from(*kind)).collect(alloc)
+}
