@@ -26,7 +26,7 @@ withdrawn_at_most R t n = go (cases_lt 0 (withdrawn_by R t n))
 
 module _ {X : Type 0} where
   -- how many blocks a history has
-  abbrev blocks : History X → ℕ
+  abbrev pub blocks : History X → ℕ
   blocks [] = 0
   blocks (opening ∷ h) = blocks h
   blocks (begin t p ∷ h) = blocks h
@@ -50,7 +50,7 @@ module _ {X : Type 0} where
   end_by_blocks (withdrawal u k ∷ h) a m s t = omega (arith, end_by_blocks h a.0 m s t, end_after h (withdrawal u k) a t)
 
   -- blocks, begins and openings are entries
-  parts : (h : History X) → blocks h + (count h + epoch h) ≤ suc (length h)
+  pub parts : (h : History X) → blocks h + (count h + epoch h) ≤ suc (length h)
   parts [] = omega arith
   parts (opening ∷ h) = omega (arith, parts h)
   parts (begin t p ∷ h) = omega (arith, parts h)
@@ -58,12 +58,8 @@ module _ {X : Type 0} where
   parts (trailer k ∷ h) = omega (arith, parts h)
   parts (withdrawal t k ∷ h) = omega (arith, parts h)
 
-  -- the epoch is at most one more than the entries
-  pub epoch_at_most : (h : History X) → epoch h ≤ suc (length h)
-  epoch_at_most h = omega (arith, parts h)
-
   -- no entry takes the epoch back
-  epoch_rises : (e : Entry X) (h : History X) → epoch h ≤ epoch (e ∷ h)
+  pub epoch_rises : (e : Entry X) (h : History X) → epoch h ≤ epoch (e ∷ h)
   epoch_rises opening h = omega arith
   epoch_rises (begin t p) h = omega arith
   epoch_rises (block k xs) h = omega arith
@@ -97,24 +93,6 @@ module _ {X : Type 0} where
       go : (0 < blocks h) ⊎ (blocks h ≤ 0) → length (track h t) ≤ 15727920
       go (inl b) = omega (arith, ends h a t, end_by_blocks h a 240 s t, parts h, begun h a b, opened h o (omega (arith, parts h, begun h a b)))
       go (inr b) = omega (arith, ends h a t, end_by_blocks h a 240 s t)
-
-  -- the sector of a take's begin is that of an entry
-  pub start_at_most : (h : History X) (k : ℕ) → (takes h k).start ≤ length h
-  start_at_most [] k = omega arith
-  start_at_most (opening ∷ h) k = omega (arith, start_at_most h k)
-  start_at_most (begin t p ∷ h) k = changed_by (λ i r. r.start ≤ suc (length h)) (suc (count h)) (λ r. fresh t p (next_place h)) (takes h) k (λ e. omega arith) (λ e. omega (arith, start_at_most h k))
-  start_at_most (block j xs ∷ h) k = let i = start_at_most h k in let e = changed_keeps (λ (r : Take X). r.start) j (longer xs (next_place h)) (takes h) k (λ r. refl) in omega arith
-  start_at_most (trailer j ∷ h) k = let i = start_at_most h k in let e = changed_keeps (λ (r : Take X). r.start) j (in_state Standing) (takes h) k (λ r. refl) in omega arith
-  start_at_most (withdrawal t j ∷ h) k = let i = start_at_most h k in let e = changed_keeps (λ (r : Take X). r.start) j (in_state Withdrawn) (takes h) k (λ r. refl) in omega arith
-
-  -- so is its last sector
-  pub last_at_most : (h : History X) (k : ℕ) → (takes h k).last ≤ length h
-  last_at_most [] k = omega arith
-  last_at_most (opening ∷ h) k = omega (arith, last_at_most h k)
-  last_at_most (begin t p ∷ h) k = changed_by (λ i r. r.last ≤ suc (length h)) (suc (count h)) (λ r. fresh t p (next_place h)) (takes h) k (λ e. omega arith) (λ e. omega (arith, last_at_most h k))
-  last_at_most (block j xs ∷ h) k = changed_by (λ i r. r.last ≤ suc (length h)) j (longer xs (next_place h)) (takes h) k (λ e. omega arith) (λ e. omega (arith, last_at_most h k))
-  last_at_most (trailer j ∷ h) k = let i = last_at_most h k in let e = changed_keeps (λ (r : Take X). r.last) j (in_state Standing) (takes h) k (λ r. refl) in omega arith
-  last_at_most (withdrawal t j ∷ h) k = let i = last_at_most h k in let e = changed_keeps (λ (r : Take X). r.last) j (in_state Withdrawn) (takes h) k (λ r. refl) in omega arith
 
   -- where no block has more than m elements, no take has more than m for each entry
   pub take_at_most : (h : History X) (m : ℕ) → Small X m h → (k : ℕ) → length (takes h k).elements ≤ m * length h

@@ -1,6 +1,6 @@
 -- Where the tracks of a table end, and how an entry moves it.
-use Rattle.std.proofs.Common.{◌≡◌, ℕ, zero, suc, ◌+◌, ◌<◌, ◌≤◌, max, Bool, true, false, cond, refl, ap, subst, arith, inl, inr, ◌==◌, eqb-true}
-use Rattle.std.proofs.lemmas.Bool.{cases_eq, cond_both, and_parts, and_right}
+use Rattle.std.proofs.Common.{◌≡◌, ℕ, zero, suc, ◌+◌, ◌<◌, ◌≤◌, max, Bool, true, false, cond, refl, ap, subst, arith, ◌==◌, eqb-true}
+use Rattle.std.proofs.lemmas.Bool.{cond_both, and_parts, and_right}
 use Rattle.takes.specs.declared.Row.{Row}
 use Rattle.takes.specs.declared.State.TheVariants.{Withdrawn, Open, Standing}
 use Rattle.takes.specs.Takes.{settled, changed}
@@ -57,14 +57,6 @@ end_same R S t n h =
 -- a row with a higher number moves no end
 pub end_below : (j : ℕ) (f : Row → Row) (R : ℕ → Row) (t n : ℕ) → n < j → end_of (changed j f R) t n ≡ end_of R t n
 end_below j f R t n h = end_same (changed j f R) R t n (λ i l a. ap (λ (r : Row). further t r a) (changed_other j f R (suc i) (λ e. omega arith)))
-
--- a heard take ends at or before the end of its track
-pub end_covers : (R : ℕ → Row) (t n k : ℕ) → 0 < k → k ≤ n → heard_on t (R k) ≡ true → (R k).position + (R k).len ≤ end_of R t n
-end_covers R t zero k l m h = absurd (omega arith)
-end_covers R t (suc n) k l m h = elim (cases_eq k (suc n)) [
-  | inl e ↦ rw (← e, h) (omega arith)
-  | inr e ↦ let i = end_covers R t n k l (omega arith) h in let b = further_not_less t (R (suc n)) (end_of R t n) in omega arith
-]
 
 -- an opening moves no end
 pub end_opening : (place n : ℕ) (R : ℕ → Row) (t m : ℕ) → end_of (next_rows place n R Opening) t m ≡ end_of R t m

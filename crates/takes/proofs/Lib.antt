@@ -7,5 +7,6 @@ pub mod Steps
 pub mod Ordered
 pub mod Cells
 pub mod Paints
-pub mod Blanks
 pub mod Bounds
+pub mod Contents
+pub mod Punches

@@ -1,10 +1,11 @@
 -- What holds of every history whose entries the take table admits, one after the other.
-use Rattle.std.specs.Prelude.{◌≡◌, ℕ, ◌-◌, ◌≤◌, List, [], ◌∷◌, ◌++◌, length, take, drop}
+use Rattle.std.specs.Prelude.{◌≡◌, ℕ, suc, ◌-◌, ◌≤◌, List, [], ◌∷◌, ◌++◌, length, take, drop}
 use Rattle.std.specs.List.{flat_map}
-use Rattle.takes.specs.Entries.{opening, begin, block, trailer, withdrawal, History}
-use Rattle.takes.specs.Takes.{count, rows}
+use Rattle.takes.specs.declared.State.TheVariants.{Open}
+use Rattle.takes.specs.Entries.{Entry, opening, begin, block, trailer, withdrawal, History}
+use Rattle.takes.specs.Takes.{count, takes, rows}
 use Rattle.takes.specs.Table.{end_of, OneOpen, NoGap}
-use Rattle.takes.specs.Tracks.{track, TableRun, TableAdmits}
+use Rattle.takes.specs.Tracks.{splice, track, TableRun}
 use Rattle.takes.specs.Painting.{Content, paint, spot_of, Shows}
 
 module _ (X : Type 0) where
@@ -15,6 +16,30 @@ module _ (X : Type 0) where
   -- a track is as long as the numbers of its takes say
   abbrev pub Ends : Type 0
   Ends = (h : History X) → TableRun h → (t : ℕ) → length (track h t) ≡ end_of (rows h) t (count h)
+
+  -- a take that is open has changed its track, since its begin, in the stretch from its position over its length, and nowhere else
+  abbrev pub Punches : Type 0
+  Punches =
+      (h later b : History X) (t p : ℕ) → TableRun h → h ≡ later ++ (begin t p ∷ b) → (takes h (suc (count b))).state ≡ Open
+      → track h t ≡ splice p (takes h (suc (count b))).elements (track b t)
+
+  -- a withdrawal makes its track what it was before the withdrawn take began, whatever came between
+  abbrev pub Restores : Type 0
+  Restores =
+      (h later b : History X) (t s p k : ℕ) → TableRun (withdrawal t k ∷ h) → h ≡ later ++ (begin s p ∷ b) → k ≡ suc (count b)
+      → track (withdrawal t k ∷ h) t ≡ track b t
+
+  -- an entry after a history edits track t: a block edits the track of its take, a withdrawal its own, and any other entry none
+  abbrev pub Edits : History X → Entry X → ℕ → Type 0
+  Edits h opening t = ⊥
+  Edits h (begin u p) t = ⊥
+  Edits h (block k xs) t = (takes h k).track ≡ t
+  Edits h (trailer k) t = ⊥
+  Edits h (withdrawal u k) t = u ≡ t
+
+  -- an entry leaves each track that it does not edit as it was, so at most one track changes
+  abbrev pub OthersStay : Type 0
+  OthersStay = (h : History X) (e : Entry X) (t : ℕ) → TableRun (e ∷ h) → (Edits h e t → ⊥) → track (e ∷ h) t ≡ track h t
 
   -- no block has more than m elements
   abbrev pub Small : ℕ → History X → Type 0

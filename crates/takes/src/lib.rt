@@ -2,7 +2,7 @@
 #![tactic(auto)]
 
 ghost use Rattle.std.specs.Prelude.{ℕ};
-ghost use Rattle.takes.specs.Claims.{Kept, Ends, Longest, PaintsTracks};
+ghost use Rattle.takes.specs.Claims.{Kept, Ends, Punches, Restores, OthersStay, Longest, PaintsTracks};
 
 // Where a take stands. A number that no take has reads as a withdrawn take, which is not heard.
 #[derive(Clone, Copy, PartialEq, Eq, Debug)]
@@ -38,10 +38,13 @@ pub enum Outline {
 }
 
 // What holds of every list of entries that the take table admits. There is nothing to run: the contract is the theorem.
-#[tactic(auto, using(crate::proofs::Ordered::kept, crate::proofs::Ordered::ends, crate::proofs::Bounds::longest, crate::proofs::Paints::painted_tracks))]
+#[tactic(auto, using(crate::proofs::Ordered::kept, crate::proofs::Ordered::ends, crate::proofs::Punches::punches, crate::proofs::Punches::restores, crate::proofs::Contents::others_stay, crate::proofs::Bounds::longest, crate::proofs::Paints::painted_tracks))]
 pub fn entries_give_tracks()
     ensures kept { Kept ℕ }
     ensures ends { Ends ℕ }
+    ensures punches { Punches ℕ }
+    ensures restores { Restores ℕ }
+    ensures others_stay { OthersStay ℕ }
     ensures longest { Longest ℕ }
     ensures painted { PaintsTracks ℕ ℕ }
 {}
