@@ -42,6 +42,9 @@ pub trait Element: Cell {
     // each value has as many bytes as its kind fixes
     ghost wide: { (x : Self) → length (bytes x) ≡ width_of KIND };
 
+    // the bytes of a lawful value are bytes
+    ghost small: { (x : Self) → lawful x ≡ true → Bytes (bytes x) };
+
     // the bytes of a lawful value are lawful and say it
     ghost told: { (x : Self) → lawful x ≡ true → (bytes_lawful KIND (bytes x) ≡ true) × (Self.value (bytes x) ≡ x) };
 

@@ -86,6 +86,8 @@ impl Element for Mark {
 
     ghost wide = { λ _. refl };
 
+    ghost small = { Stamps.small };
+
     ghost told = { Stamps.told };
 
     ghost only = { Stamps.only };

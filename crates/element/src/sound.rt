@@ -35,6 +35,8 @@ impl Element for i16 {
 
     ghost wide = { λ _. refl };
 
+    ghost small = { Samples.small };
+
     ghost told = { Samples.told };
 
     ghost only = { Samples.only };
