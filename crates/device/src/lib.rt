@@ -7,6 +7,7 @@ ghost use Rattle.device.specs.Faults.{Answer};
 ghost use Rattle.device.specs.Calls.{Reads, Writes, Flushes};
 ghost use Rattle.device.specs.Cuts.{EachCut, cut_by};
 ghost use Rattle.device.specs.Meaning.{Meaning, Lawful};
+ghost use Rattle.device.specs.Piles.{Pile, LayerAt, Named, PowerNames, ReadsName, WritesName, FlushesName};
 
 pub mod fault;
 
@@ -19,6 +20,9 @@ pub trait Device {
 
     // the number by which the device names itself where a sector is out of its range
     ghost layer: { ℕ };
+
+    // how devices stand on one another, from this one down, each by its number as a layer
+    ghost pile: { Pile };
 
     // exactly what a read did: the device before, the sector, the buffer before, the answer, the device after, the buffer after
     ghost fetched: { Self → ℕ → List ℕ → Answer → Self → List ℕ → Type 0 };
@@ -55,6 +59,12 @@ pub trait Device {
 
     // what holds of every device
     ghost lawful: { (d : Self) → Lawful (meaning d) };
+
+    // the faults of its power and of its sick sectors name the sector, and the layer of the pile where they arose
+    ghost named: { (d : Self) → Named pile (meaning d) };
+
+    // the device itself is at the top of its pile
+    ghost top: { LayerAt pile 0 layer };
 }
 
 // A device whose power can be cut.
@@ -65,8 +75,21 @@ pub trait CuttableDevice: Device {
     // every device below this one, at any depth
     ghost below: { Self → List Meaning };
 
+    // exactly what a cut did: the device before, the plan, the device after
+    ghost severed: { Self → List ℕ → Self → Type 0 };
+
     // Cuts the power: of this device and of every one below, each by the same rule, and of every image as the plan says.
     fn cut(&mut self, plan: &[u8])
         ensures images { images self.new ≡ map (cut_by plan.now) (images self.old) }
-        ensures each { EachCut (Self.Device.meaning self.old ∷ below self.old) (Self.Device.meaning self.new ∷ below self.new) };
+        ensures each { EachCut (Self.Device.meaning self.old ∷ below self.old) (Self.Device.meaning self.new ∷ below self.new) }
+        ensures exact { severed self.old plan.now self.new };
 }
+
+// Whatever a device stands on, a fault that a call answers names the sector that was asked, or 0 where power is lost,
+// and the layer where it arose. There is nothing to run: the contract is the theorem.
+pub fn faults_name_sector_and_layer<D: Device>()
+    ensures power { PowerNames D.Device.pile D.Device.meaning }
+    ensures reads { ReadsName D.Device.pile D.Device.layer D.Device.meaning }
+    ensures writes { WritesName D.Device.pile D.Device.layer D.Device.meaning }
+    ensures flushes { FlushesName D.Device.pile D.Device.meaning }
+{}

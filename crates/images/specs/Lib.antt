@@ -3,6 +3,7 @@ pub mod Rewrites
 pub mod Full
 pub mod Image
 pub mod Lawful
+pub mod Named
 pub mod Plain
 pub mod Queue
 pub mod Queued

@@ -5,10 +5,12 @@ use Rattle.device.specs.declared.fault.Layer.TheVariants.{PlainImage as PlainLay
 use Rattle.device.specs.Faults.{layer_number, Answer}
 use Rattle.device.specs.Meaning.{Sector, held, Meaning, Lawful}
 use Rattle.device.specs.Calls.{answer_of, standing}
+use Rattle.device.specs.Piles.{Pile, image, Named}
 use Rattle.images.specs.declared.plain.PlainImage.{PlainImage}
 use Rattle.images.specs.Sectors.{over}
 use Rattle.images.specs.Image.{image_meaning, ImageReads}
 use Rattle.images.specs.Lawful.{image_lawful}
+use Rattle.images.specs.Named.{image_named}
 
 -- a plain image's number as a layer
 abbrev pub plain_number : ℕ
@@ -21,6 +23,14 @@ plain_meaning p = image_meaning plain_number p.sectors.sick p.sectors.bytes.now 
 -- what holds of every device holds of a plain image
 abbrev pub plain_lawful : (p : PlainImage) → Lawful (plain_meaning p)
 plain_lawful p = image_lawful plain_number p.sectors.sick p.sectors.bytes.now [] refl
+
+-- a plain image stands on no other device
+abbrev pub plain_pile : Pile
+plain_pile = image plain_number
+
+-- its faults name their sectors and the image
+abbrev pub plain_named : (p : PlainImage) → Named plain_pile (plain_meaning p)
+plain_named p = image_named plain_number p.sectors.sick p.sectors.bytes.now []
 
 -- p is made over lent bytes: the meaning, the sick sectors, the bytes and who lent them
 pub record PlainMade (sick_ones : List (Option ℕ)) (lent : MutBor (List ℕ)) (p : PlainImage) : Type 0 where
@@ -50,3 +60,7 @@ pub record PlainWrites (p : PlainImage) (s : ℕ) (b : List ℕ) (r : Answer) (n
 pub record PlainFlushes (p : PlainImage) (r : Answer) (n : PlainImage) : Type 0 where
   pub answer : r ≡ Ok tt
   pub same : n ≡ p
+
+-- a cut changes nothing, whatever the plan says
+abbrev pub PlainCuts : PlainImage → List ℕ → PlainImage → Type 0
+PlainCuts p plan n = n ≡ p

@@ -6,11 +6,13 @@ use Rattle.device.specs.Faults.{layer_number, Answer}
 use Rattle.device.specs.Meaning.{Sector, Meaning, Lawful}
 use Rattle.device.specs.Calls.{answer_of, standing, written, settled}
 use Rattle.device.specs.Cuts.{cut_by}
+use Rattle.device.specs.Piles.{Pile, image, Named}
 use Rattle.images.specs.declared.queue.WaitingWrite.{WaitingWrite}
 use Rattle.images.specs.declared.queued.QueuedImage.{QueuedImage}
 use Rattle.images.specs.Sectors.{content}
 use Rattle.images.specs.Image.{image_meaning, ImageReads}
 use Rattle.images.specs.Lawful.{image_lawful}
+use Rattle.images.specs.Named.{image_named}
 use Rattle.images.specs.Queue.{settle_all, room_queue, room_bytes, room_sectors, cut_content}
 
 -- a queued image's number as a layer
@@ -28,6 +30,14 @@ queued_meaning p = image_meaning queued_number p.sectors.sick p.sectors.bytes.no
 -- what holds of every device holds of a queued image
 abbrev pub queued_lawful : (p : QueuedImage) → Lawful (queued_meaning p)
 queued_lawful p = image_lawful queued_number p.sectors.sick p.sectors.bytes.now (waiting p) p.queue.full
+
+-- a queued image stands on no other device
+abbrev pub queued_pile : Pile
+queued_pile = image queued_number
+
+-- its faults name their sectors and the image
+abbrev pub queued_named : (p : QueuedImage) → Named queued_pile (queued_meaning p)
+queued_named p = image_named queued_number p.sectors.sick p.sectors.bytes.now (waiting p)
 
 -- p is made over lent bytes: the meaning, that nothing waits, the sick sectors, the bytes and who lent them
 pub record QueuedMade (sick_ones : List (Option ℕ)) (lent : MutBor (List ℕ)) (p : QueuedImage) : Type 0 where

@@ -1,9 +1,8 @@
 // The plain image.
-ghost use Rattle.std.specs.Prelude.{◌≡◌, [], ◌∷◌, map, Ok};
+ghost use Rattle.std.specs.Prelude.{◌≡◌, [], ◌∷◌, refl, Ok};
 ghost use Rattle.device.specs.Calls.{Reads, Writes, Flushes};
-ghost use Rattle.device.specs.Cuts.{EachCut, cut_by};
 ghost use Rattle.images.specs.Sectors.{whole, ready};
-ghost use Rattle.images.specs.Plain.{plain_number, plain_meaning, plain_lawful, PlainMade, PlainReads, PlainWrites, PlainFlushes};
+ghost use Rattle.images.specs.Plain.{plain_number, plain_meaning, plain_lawful, plain_pile, plain_named, PlainMade, PlainReads, PlainWrites, PlainFlushes, PlainCuts};
 
 use crate::sectors::Sectors;
 use device::{CuttableDevice, Device, Fault, Layer};
@@ -39,7 +38,13 @@ impl<'a> Device for PlainImage<'a> {
 
     ghost layer = { plain_number };
 
+    ghost pile = { plain_pile };
+
     ghost lawful = { plain_lawful };
+
+    ghost named = { plain_named };
+
+    ghost top = { refl };
 
     ghost fetched = { PlainReads };
 
@@ -86,11 +91,9 @@ impl<'a> CuttableDevice for PlainImage<'a> {
 
     ghost below = { λ _. [] };
 
-    fn cut(&mut self, plan: &[u8])
-        ensures images { (plain_meaning self.new ∷ []) ≡ map (cut_by plan.now) (plain_meaning self.old ∷ []) }
-        ensures each { EachCut (plain_meaning self.old ∷ []) (plain_meaning self.new ∷ []) }
-        ensures same { self.new ≡ self.old }
-    {
+    ghost severed = { PlainCuts };
+
+    fn cut(&mut self, plan: &[u8]) {
         // Nothing waits, so whatever the plan says a cut leaves the image as it is.
     }
 }

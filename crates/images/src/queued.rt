@@ -1,10 +1,10 @@
 // The queued image.
-ghost use Rattle.std.specs.Prelude.{◌≡◌, ◌<◌, [], ◌∷◌, map, length, IfOk, Ok};
+ghost use Rattle.std.specs.Prelude.{◌≡◌, ◌<◌, [], ◌∷◌, length, refl, IfOk, Ok};
 ghost use Rattle.device.specs.Calls.{Reads, Writes, Flushes};
-ghost use Rattle.device.specs.Cuts.{EachCut, cut_by};
+ghost use Rattle.device.specs.Cuts.{EachCut};
 ghost use Rattle.images.specs.Sectors.{whole, ready};
 ghost use Rattle.images.specs.Queue.{room_queue, room_bytes};
-ghost use Rattle.images.specs.Queued.{queued_number, waiting, queued_meaning, queued_lawful, Becomes, QueuedMade, QueuedReads, QueuedWrites, QueuedFlushes, QueuedCuts};
+ghost use Rattle.images.specs.Queued.{queued_number, waiting, queued_meaning, queued_lawful, queued_pile, queued_named, Becomes, QueuedMade, QueuedReads, QueuedWrites, QueuedFlushes, QueuedCuts};
 
 use crate::queue::Queue;
 use crate::sectors::Sectors;
@@ -86,7 +86,13 @@ impl<'a> Device for QueuedImage<'a> {
 
     ghost layer = { queued_number };
 
+    ghost pile = { queued_pile };
+
     ghost lawful = { queued_lawful };
+
+    ghost named = { queued_named };
+
+    ghost top = { refl };
 
     ghost fetched = { QueuedReads };
 
@@ -136,11 +142,9 @@ impl<'a> CuttableDevice for QueuedImage<'a> {
 
     ghost below = { λ _. [] };
 
-    fn cut(&mut self, plan: &[u8])
-        ensures images { (queued_meaning self.new ∷ []) ≡ map (cut_by plan.now) (queued_meaning self.old ∷ []) }
-        ensures each { EachCut (queued_meaning self.old ∷ []) (queued_meaning self.new ∷ []) }
-        ensures exact { QueuedCuts self.old plan.now self.new }
-    {
+    ghost severed = { QueuedCuts };
+
+    fn cut(&mut self, plan: &[u8]) {
         self.leave_chosen(plan);
     }
 }

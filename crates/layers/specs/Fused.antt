@@ -106,3 +106,7 @@ FuseFlushed Flushed f r f' =
     (λ e. (r ≡ Err e) × (f' ≡ f))
     (λ q. Flushed f.inner q f'.inner × Counts q f.counter f'.counter)
     r
+
+-- exactly what a fuse's cut did: it cut below by the same plan, and is not set
+abbrev pub FuseSevered : {D : Type 0} → (D → List ℕ → D → Type 0) → Fuse D → List ℕ → Fuse D → Type 0
+FuseSevered Severed f plan f' = (f'.counter ≡ unset) × Severed f.inner plan f'.inner

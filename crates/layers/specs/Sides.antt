@@ -40,6 +40,10 @@ WriteRelation D = D → ℕ → List ℕ → Answer → D → Type 0
 abbrev pub FlushRelation : Type 0 → Type 1
 FlushRelation D = D → Answer → D → Type 0
 
+-- what a cut did to a device: the device before, the plan, the device after
+abbrev pub CutRelation : Type 0 → Type 1
+CutRelation D = D → List ℕ → D → Type 0
+
 -- a mirror of what each side means
 abbrev pub sides_of : {D E : Type 0} → (D → Meaning) → (E → Meaning) → Mirror D E → Mirror Meaning Meaning
 sides_of d e m = record { first = d m.first; second = e m.second }
@@ -86,6 +90,10 @@ BothFlushed d e FlushedD FlushedE m r n = Joined d e (λ p q. FlushedD m.first p
 abbrev pub MirrorFlushed : {D E : Type 0} → (D → Meaning) → (E → Meaning) → FlushRelation D → FlushRelation E → FlushRelation (Mirror D E)
 MirrorFlushed d e FlushedD FlushedE m r n =
     ByFault (power_fault (mirror_meaning d e m).power) (λ f. (r ≡ Err f) × (n ≡ m)) (BothFlushed d e FlushedD FlushedE m r n)
+
+-- what a mirror's cut did: each side was cut by the same plan
+abbrev pub MirrorSevered : {D E : Type 0} → CutRelation D → CutRelation E → CutRelation (Mirror D E)
+MirrorSevered SeveredD SeveredE m plan n = SeveredD m.first plan n.first × SeveredE m.second plan n.second
 
 -- a read of the mirror, by what its sides mean
 abbrev pub MirrorReads : ℕ → ℕ → ReadRelation (Mirror Meaning Meaning)

@@ -1,9 +1,11 @@
 // A fuse: cuts its own power after a chosen number of accepted writes and flushes.
-ghost use Rattle.std.specs.Prelude.{◌≡◌, ◌∷◌, map};
+ghost use Rattle.std.specs.Prelude.{◌≡◌, ◌∷◌, map, refl};
 ghost use Rattle.device.specs.Calls.{Reads, Writes, Flushes};
 ghost use Rattle.device.specs.Cuts.{EachCut, cut_by};
-ghost use Rattle.layers.specs.Fused.{unset, is_blown, set_to, counted, BlowsInTime, Counts, fuse_layer, own_power, fused_power, fuse_meaning, fuse_ready, FuseReads, FuseWrites, FuseFlushes, FuseFetched, FuseWrote, FuseFlushed};
+ghost use Rattle.device.specs.Piles.{over};
+ghost use Rattle.layers.specs.Fused.{unset, is_blown, set_to, counted, BlowsInTime, Counts, fuse_layer, own_power, fused_power, fuse_meaning, fuse_ready, FuseReads, FuseWrites, FuseFlushes, FuseFetched, FuseWrote, FuseFlushed, FuseSevered};
 ghost use Rattle.layers.specs.FusedLawful.{fused_lawful};
+ghost use Rattle.layers.specs.Named.{fused_named};
 ghost use Rattle.layers.specs.WholeCuts.{under_fuse};
 
 use device::fault::{in_range, raised};
@@ -103,7 +105,13 @@ impl<D: Device> Device for Fuse<D> {
 
     ghost layer = { fuse_layer };
 
+    ghost pile = { over fuse_layer D.Device.pile };
+
     ghost lawful = { λ f. fused_lawful f.counter (D.Device.lawful f.inner) };
+
+    ghost named = { λ f. fused_named D.Device.pile f.counter (D.Device.named f.inner) };
+
+    ghost top = { refl };
 
     ghost fetched = { FuseFetched D.Device.meaning D.Device.fetched };
 
@@ -165,10 +173,13 @@ impl<D: CuttableDevice> CuttableDevice for Fuse<D> {
 
     ghost below = { under_fuse D.Device.meaning D.CuttableDevice.below };
 
+    ghost severed = { FuseSevered D.CuttableDevice.severed };
+
     fn cut(&mut self, plan: &[u8])
         ensures images { D.CuttableDevice.images self.new.inner ≡ map (cut_by plan.now) (D.CuttableDevice.images self.old.inner) }
         ensures each { EachCut (fuse_meaning D.Device.meaning self.old ∷ under_fuse D.Device.meaning D.CuttableDevice.below self.old) (fuse_meaning D.Device.meaning self.new ∷ under_fuse D.Device.meaning D.CuttableDevice.below self.new) }
         ensures clears { self.new.counter ≡ unset }
+        ensures exact { FuseSevered D.CuttableDevice.severed self.old plan.now self.new }
     {
         self.counter = Counter::default();
         self.inner.cut(plan);

@@ -1,11 +1,13 @@
 // A mirror: two devices that hold the same.
-ghost use Rattle.std.specs.Prelude.{◌≡◌, min, ◌∷◌, map};
+ghost use Rattle.std.specs.Prelude.{◌≡◌, min, ◌∷◌, map, refl};
 ghost use Rattle.device.specs.Faults.{Answer};
 ghost use Rattle.device.specs.Calls.{Reads, Writes, Flushes, answer_of};
 ghost use Rattle.device.specs.Cuts.{EachCut, cut_by};
+ghost use Rattle.device.specs.Piles.{beside};
 ghost use Rattle.layers.specs.Mirrored.{both_power, mirror_layer, mirror_meaning};
 ghost use Rattle.layers.specs.MirroredLawful.{mirrored_lawful};
-ghost use Rattle.layers.specs.Sides.{lost_power, found_sick, joined, sides_of, mirror_stands, EitherFetched, BothWrote, BothFlushed, MirrorFetched, MirrorWrote, MirrorFlushed, MirrorReads, MirrorWrites, MirrorFlushes, EachWrote, EachFlushed};
+ghost use Rattle.layers.specs.Named.{mirrored_named};
+ghost use Rattle.layers.specs.Sides.{lost_power, found_sick, joined, sides_of, mirror_stands, EitherFetched, BothWrote, BothFlushed, MirrorFetched, MirrorWrote, MirrorFlushed, MirrorSevered, MirrorReads, MirrorWrites, MirrorFlushes, EachWrote, EachFlushed};
 ghost use Rattle.layers.specs.WholeCuts.{WholeCut, mirror_images, under_mirror};
 
 use device::fault::{in_range, raised};
@@ -104,6 +106,19 @@ impl<D: Device, E: Device> Mirror<D, E> {
     }
 }
 
+// What a cut does to the sides.
+impl<D: CuttableDevice, E: CuttableDevice> Mirror<D, E> {
+    // Cuts both sides.
+    fn cut_both(&mut self, plan: &[u8])
+        ensures first { WholeCut D.Device.meaning D.CuttableDevice.images D.CuttableDevice.below plan.now self.old.first self.new.first }
+        ensures second { WholeCut E.Device.meaning E.CuttableDevice.images E.CuttableDevice.below plan.now self.old.second self.new.second }
+        ensures exact { MirrorSevered D.CuttableDevice.severed E.CuttableDevice.severed self.old plan.now self.new }
+    {
+        self.first.cut(plan);
+        self.second.cut(plan);
+    }
+}
+
 // The trait's clauses stand here again beside those of the mirror, since clauses that a method has of its own replace them.
 // Read and write begin alike and go on apart: one function that is passed the rest would be no plainer.
 impl<D: Device, E: Device> Device for Mirror<D, E> {
@@ -111,7 +126,13 @@ impl<D: Device, E: Device> Device for Mirror<D, E> {
 
     ghost layer = { mirror_layer };
 
+    ghost pile = { beside mirror_layer D.Device.pile E.Device.pile };
+
     ghost lawful = { λ m. mirrored_lawful (D.Device.meaning m.first) (E.Device.meaning m.second) (D.Device.lawful m.first) (E.Device.lawful m.second) };
+
+    ghost named = { λ m. mirrored_named D.Device.pile E.Device.pile (D.Device.meaning m.first) (E.Device.meaning m.second) (D.Device.named m.first) (E.Device.named m.second) };
+
+    ghost top = { refl };
 
     ghost fetched = { MirrorFetched D.Device.meaning E.Device.meaning D.Device.fetched E.Device.fetched };
 
@@ -166,13 +187,15 @@ impl<D: CuttableDevice, E: CuttableDevice> CuttableDevice for Mirror<D, E> {
 
     ghost below = { under_mirror D.Device.meaning D.CuttableDevice.below E.Device.meaning E.CuttableDevice.below };
 
+    ghost severed = { MirrorSevered D.CuttableDevice.severed E.CuttableDevice.severed };
+
     fn cut(&mut self, plan: &[u8])
         ensures images { mirror_images D.CuttableDevice.images E.CuttableDevice.images self.new ≡ map (cut_by plan.now) (mirror_images D.CuttableDevice.images E.CuttableDevice.images self.old) }
         ensures each { EachCut (mirror_meaning D.Device.meaning E.Device.meaning self.old ∷ under_mirror D.Device.meaning D.CuttableDevice.below E.Device.meaning E.CuttableDevice.below self.old) (mirror_meaning D.Device.meaning E.Device.meaning self.new ∷ under_mirror D.Device.meaning D.CuttableDevice.below E.Device.meaning E.CuttableDevice.below self.new) }
         ensures first { WholeCut D.Device.meaning D.CuttableDevice.images D.CuttableDevice.below plan.now self.old.first self.new.first }
         ensures second { WholeCut E.Device.meaning E.CuttableDevice.images E.CuttableDevice.below plan.now self.old.second self.new.second }
+        ensures exact { MirrorSevered D.CuttableDevice.severed E.CuttableDevice.severed self.old plan.now self.new }
     {
-        self.first.cut(plan);
-        self.second.cut(plan);
+        self.cut_both(plan);
     }
 }
