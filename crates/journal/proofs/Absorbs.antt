@@ -28,7 +28,7 @@ payload_told f p sector l e =
     (whole, ap payload_of e ∙ take_at p (le32 (crc32 (field_bytes f ++ p))) 480 whole)
 
 -- the numbers of an entry's sector tell the entry but for a block's elements
-outline_told : (hd : Header) (place ep n : ℕ) (R : ℕ → Row) (o : Outline) → outline_in (entry_fields hd place ep n R o) ≡ Some o
+pub outline_told : (hd : Header) (place ep n : ℕ) (R : ℕ → Row) (o : Outline) → outline_in (entry_fields hd place ep n R o) ≡ Some o
 outline_told hd place ep n R Opening = refl
 outline_told hd place ep n R (Begin t p) = refl
 outline_told hd place ep n R (Block k c) = refl

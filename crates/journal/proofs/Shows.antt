@@ -41,7 +41,7 @@ two_told : (n : ℕ) → n < 65536 → n % 256 + n / 256 % 256 * 256 ≡ n
 two_told n h = omega arith
 
 -- and one that fits four
-four_told : (n : ℕ) → n < 4294967296 → n % 256 + n / 256 % 256 * 256 + n / 65536 % 256 * 65536 + n / 16777216 % 256 * 16777216 ≡ n
+pub four_told : (n : ℕ) → n < 4294967296 → n % 256 + n / 256 % 256 * 256 + n / 65536 % 256 * 65536 + n / 16777216 % 256 * 16777216 ≡ n
 four_told n h =
     let c : n / 16777216 < 256 = omega arith in
     let m : n / 16777216 % 256 ≡ n / 16777216 = mod-eq_of_lt c in
@@ -71,7 +71,7 @@ written s f p e c t a l = record {
 }
 
 -- no block of a log has more than 240 elements
-small : (hd : Header) (h : Log) → Run hd h → Small (List ℕ) 240 h
+pub small : (hd : Header) (h : Log) → Run hd h → Small (List ℕ) 240 h
 small hd [] r = tt
 small hd (opening ∷ h) (r, a) = small hd h r
 small hd (begin t p ∷ h) (r, a) = small hd h r
@@ -175,7 +175,7 @@ painted_log v w per hd h r N s t even from out =
     (shows v w per hd N (spot_of (rows h) t) t even h r (λ j f q l m. spot_on_track (rows h) t j f q) s) from out
 
 -- a session's table gives the same spots as its log
-same_spots : (s : Session) (h : Log) → InStep s h → (t : ℕ) → spot_of (table_of s) t ≡ spot_of (rows h) t
+pub same_spots : (s : Session) (h : Log) → InStep s h → (t : ℕ) → spot_of (table_of s) t ≡ spot_of (rows h) t
 same_spots s h i t = ap (λ (R : ℕ → Row). spot_of R t) (sym (rows_same s h i))
 
 -- a slice over which all sectors of the session's log were painted shows a track

@@ -27,7 +27,7 @@ capacity_small Sound = omega arith
 capacity_small Mark = omega arith
 
 -- a track ends at or before a place that no row is beyond
-end_within : (R : ℕ → Row) (b : ℕ) → ((k : ℕ) → (R k).position + (R k).len ≤ b) → (t n : ℕ) → end_of R t n ≤ b
+pub end_within : (R : ℕ → Row) (b : ℕ) → ((k : ℕ) → (R k).position + (R k).len ≤ b) → (t n : ℕ) → end_of R t n ≤ b
 end_within R b h t zero = omega arith
 end_within R b h t (suc n) =
     let i = end_within R b h t n in
@@ -39,7 +39,7 @@ row_later : (hd : Header) (m : ℕ) (r : Row) → RowWithin hd m r → RowWithin
 row_later hd m r (t, e, s, l) = (t, omega arith, omega arith, omega arith)
 
 -- so is each row after an entry that may follow
-rows_within : (hd : Header) (m n : ℕ) (R : ℕ → Row) (o : Outline) → ((k : ℕ) → RowWithin hd m (R k)) → Follows hd m n (λ t. end_of R t n) R o
+pub rows_within : (hd : Header) (m n : ℕ) (R : ℕ → Row) (o : Outline) → ((k : ℕ) → RowWithin hd m (R k)) → Follows hd m n (λ t. end_of R t n) R o
     → (k : ℕ) → RowWithin hd (m + 1) (next_rows (m + 1) n R o k)
 rows_within hd m n R Opening w f k = row_later hd m (R k) (w k)
 rows_within hd m n R (Begin t p) w f k =

@@ -5,3 +5,4 @@ pub mod Devices
 pub mod Search
 pub mod Plays
 pub mod Blanks
+pub mod Exports

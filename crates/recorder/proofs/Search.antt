@@ -1,5 +1,5 @@
 -- A mount's search for the log, read by read.
-use Rattle.std.proofs.Common.{◌≡◌, ℕ, ◌+◌, ◌<◌, ◌≤◌, true, false, List, ◌∷◌, Option, Some, None, Result, Ok, Err, is_some, sym, refl, ap, ◌∙◌, subst, arith}
+use Rattle.std.proofs.Common.{◌≡◌, ℕ, ◌+◌, ◌<◌, ◌≤◌, true, false, List, ◌∷◌, Option, Some, None, Ok, Err, is_some, sym, refl, ap, ◌∙◌, subst, arith}
 use Rattle.device.specs.declared.fault.Cause.TheVariants.{Sick}
 use Rattle.device.specs.declared.fault.Fault.{Fault}
 use Rattle.device.specs.Meaning.{Meaning, Lawful as LawfulDevice, newest}
@@ -12,14 +12,9 @@ use Rattle.journal.specs.declared.session.Session.{Session}
 use Rattle.journal.specs.Headers.{Lawful, header_bytes}
 use Rattle.journal.specs.Log.{LogEntry, Continues, told}
 use Rattle.journal.specs.Sessions.{table_of, Absorbs}
-use Rattle.recorder.specs.declared.State.{State}
-use Rattle.recorder.specs.declared.State.TheVariants.{Unmounted, Mounted}
-use Rattle.recorder.specs.declared.call.Call.TheVariants.{Mount}
-use Rattle.recorder.specs.declared.failed.Failed.{Failed}
-use Rattle.recorder.specs.Refusals.{refusal, passed}
+use Rattle.recorder.specs.declared.State.TheVariants.{Mounted}
 use Rattle.recorder.specs.Devices.{Settled, Lost, Readable}
-use Rattle.recorder.specs.Mounts.{Found, FoundLog, Searched, Mounts, Seeking, Sought}
-use Rattle.recorder.proofs.Decides.{decided}
+use Rattle.recorder.specs.Mounts.{Found, FoundLog, Seeking, Sought}
 use Rattle.recorder.proofs.Devices.{kept_newest, kept_sick, settled_trans, HasRead, read, not_read, Halt, at_sick, off, halted}
 
 module _ (start m : Meaning) (s : Session) (i : Seeking start s m) where
@@ -43,6 +38,7 @@ module _ (start m : Meaning) (s : Session) (i : Seeking start s m) where
       record {
         session = s;
         log = i.log;
+        power = i.power;
         state = refl;
         is_log = record { lawful = i.lawful; header = i.header; run = i.step.run; found = i.found; ends = ends };
         step = i.step;
@@ -85,10 +81,10 @@ module _ (start m : Meaning) (s : Session) (i : Seeking start s m) where
       → Absorbs s sector o s' → Sought start s (Ok (is_some o)) s' m'
   sought layer m' buffer sector o s' r a = given m' sector o s' (read layer m m' (s.entries + 1) buffer sector r) a
 
-  module _ (layer : ℕ) (m' : Meaning) (buffer sector : List ℕ) (f : Fault) (law : LawfulDevice m) (law' : LawfulDevice m') (lt : s.entries + 1 < m.size)
+  module _ (layer : ℕ) (m' : Meaning) (buffer sector : List ℕ) (f : Fault) (law : LawfulDevice m) (law' : LawfulDevice m') (lt : s.entries + 1 < start.size)
       (r : Reads layer m (s.entries + 1) buffer (Err f) m' sector) where
     halts : Halt start (s.entries + 1) f m'
-    halts = halted layer start m m' (s.entries + 1) f law law' i.power (omega (arith, i.kept.size)) i.kept (not_read layer m m' (s.entries + 1) buffer sector f r).0
+    halts = halted layer start m m' (s.entries + 1) f law law' i.power lt i.kept (not_read layer m m' (s.entries + 1) buffer sector f r).0
 
     at_sick_end : Halt start (s.entries + 1) f m' → f.cause ≡ Sick → FoundLog start s.entries (Mounted s) m'
     at_sick_end (at_sick c sick kept) e =
@@ -108,8 +104,3 @@ module _ (start m : Meaning) (s : Session) (i : Seeking start s m) where
 -- the search came to the last sector of the device
 pub found_all : (start m : Meaning) (s : Session) (i : Seeking start s m) → start.size ≤ s.entries + 1 → FoundLog start s.entries (Mounted s) m
 found_all start m s i le = ended start m s i m i.kept (λ r k. absurd (omega (arith, r.0, i.step.entries)))
-
--- a mount on a device that is large enough
-pub mounts : (layer : ℕ) (m m' : Meaning) (r : Result ℕ Failed) (st' : State) → passed (refusal Unmounted m.size Mount) ≡ Ok tt
-    → Searched layer Unmounted m r st' m' → Mounts layer Unmounted m r st' m'
-mounts layer m m' r st' due h = decided (refusal Unmounted m.size Mount) r Unmounted st' m m' (Searched layer Unmounted m r st' m') due h

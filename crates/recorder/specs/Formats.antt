@@ -2,6 +2,7 @@
 use Rattle.std.specs.Prelude.{◌≡◌, ℕ, zero, suc, ◌+◌, ◌-◌, ◌<◌, Bool, cond, ◌⊎◌, List, [], ◌∷◌, ◌++◌, length, map, replicate, Result, Ok, Err, Some, None, ◌==◌}
 use mathlib.Core.List.{Memᴰ}
 use Rattle.device.specs.declared.fault.Fault.{Fault}
+use Rattle.device.specs.Faults.{Answer}
 use Rattle.device.specs.Meaning.{Sector, sick, held, Meaning}
 use Rattle.device.specs.Calls.{standing, sick_fault}
 use Rattle.element.specs.declared.kind.Kind.{Kind}
@@ -28,50 +29,67 @@ header_of kinds rate sitting =
 unfoldable pub zeros : List ℕ
 zeros = replicate 512 0
 
--- what a format leaves of sector t: the header in sector 0, zeros in every other, and a sick one as it is
+-- a sector that was blanked holds zeros and nothing else; a sick one is as it was
+abbrev pub zeroed : Sector → Sector
+zeroed (sick f) = sick f
+zeroed (held old new) = held [] zeros
+
+-- what a format leaves of sector t: the header alone in sector 0, and every other blanked
 abbrev pub formatted : Header → ℕ → Sector → Sector
-formatted hd t (sick f) = sick f
+formatted hd zero (sick f) = sick f
 formatted hd zero (held old new) = held [] (header_bytes hd)
-formatted hd (suc t) (held old new) = held [] zeros
+formatted hd (suc t) s = zeroed s
 
 -- how many of the first n sectors are not sick
 abbrev pub well : Meaning → ℕ → ℕ
 well m zero = 0
 well m (suc n) = elim (m.sector n) [ sick f ↦ well m n | held old new ↦ suc (well m n) ]
 
--- what a format writes to sector t: zeros, and to sector 0 the header too
-abbrev pub IsNew : Header → ℕ → List ℕ → Type 0
-IsNew hd t c = (c ≡ zeros) ⊎ ((t ≡ 0) × (c ≡ header_bytes hd))
+-- until the blanks have settled: a sector is sick as before, or holds contents that it held, and zeros
+abbrev pub Overwritten : Sector → Sector → Type 0
+Overwritten (sick f) s' = s' ≡ sick f
+Overwritten (held old new) (sick f) = ⊥
+Overwritten (held old new) (held old' new') =
+    (c : List ℕ) → Memᴰ c (old' ++ (new' ∷ [])) → Memᴰ c (old ++ (new ∷ [])) ⊎ (c ≡ zeros)
 
--- what an interrupted format can have left of sector t: contents that it held, and what a format writes
-abbrev pub Overwritten : Header → ℕ → Sector → Sector → Type 0
-Overwritten hd t (sick f) s' = s' ≡ sick f
-Overwritten hd t (held old new) (sick f) = ⊥
-Overwritten hd t (held old new) (held old' new') =
-    (c : List ℕ) → Memᴰ c (old' ++ (new' ∷ [])) → Memᴰ c (old ++ (new ∷ [])) ⊎ IsNew hd t c
+-- from then on: sector 0, which was not sick, holds zeros and the header, and nothing older
+abbrev pub Headed : Header → Sector → Sector → Type 0
+Headed hd (sick f) s' = ⊥
+Headed hd (held old new) (sick f) = ⊥
+Headed hd (held old new) (held old' new') =
+    (c : List ℕ) → Memᴰ c (old' ++ (new' ∷ [])) → (c ≡ zeros) ⊎ (c ≡ header_bytes hd)
 
--- a sector is sick as before, or shows the content c: its newest
-abbrev pub Shows : List ℕ → Sector → Sector → Type 0
-Shows c (sick f) s' = s' ≡ sick f
-Shows c (held old new) (sick f) = ⊥
-Shows c (held old new) (held old' new') = new' ≡ c
-
--- power was on and went off in the format, which tells the fault f
-pub record Interrupted (hd : Header) (f : Fault) (m m' : Meaning) : Type 0 where
+-- power was on and went off before the header was written, and the format tells the fault f: each sector can hold what it held, and zeros
+pub record LostInBlanks (f : Fault) (m m' : Meaning) : Type 0 where
   pub size : m'.size ≡ m.size
   pub before : m.power ≡ Ok tt
   pub after : m'.power ≡ Err f
-  pub each : (t : ℕ) → t < m.size → Overwritten hd t (m.sector t) (m'.sector t)
+  pub each : (t : ℕ) → t < m.size → Overwritten (m.sector t) (m'.sector t)
 
--- every sector is as a format leaves it
-pub record Blanked (hd : Header) (m m' : Meaning) : Type 0 where
+-- power was on and went off when the header was written or later, and the format tells the fault f: every other sector that is not sick
+-- holds zeros and nothing else by then
+pub record LostInHeader (hd : Header) (f : Fault) (m m' : Meaning) : Type 0 where
   pub size : m'.size ≡ m.size
+  pub before : m.power ≡ Ok tt
+  pub after : m'.power ≡ Err f
+  pub first : Headed hd (m.sector 0) (m'.sector 0)
+  pub rest : (t : ℕ) → 0 < t → t < m.size → m'.sector t ≡ zeroed (m.sector t)
+
+-- power went off in the format, before or after the blanks had settled
+abbrev pub Interrupted : Header → Fault → Meaning → Meaning → Type 0
+Interrupted hd f m m' = LostInBlanks f m m' ⊎ LostInHeader hd f m m'
+
+-- an accepted format: power was on, sector 0 was not sick, and every sector is as a format leaves it
+pub record Prepared (hd : Header) (m m' : Meaning) : Type 0 where
+  pub size : m'.size ≡ m.size
+  pub power : m.power ≡ Ok tt
+  pub first : sick_fault (m.sector 0) ≡ None
   pub each : (t : ℕ) → t < m.size → m'.sector t ≡ formatted hd t (m.sector t)
 
 -- the work on the device: it is done, and the answer is how many sectors were blanked; or it ends at a fault, which stood before, of
 -- power or of sector 0, or is that of power that went off
 abbrev pub LaidOut : ℕ → Header → Meaning → Result ℕ Fault → Meaning → Type 0
-LaidOut layer hd m (Ok n) m' = (n ≡ well m m.size) × Blanked hd m m'
+LaidOut layer hd m (Ok n) m' = (n ≡ well m m.size) × Prepared hd m m'
 LaidOut layer hd m (Err f) m' = ((standing layer m 0 ≡ Some f) × (m' ≡ m)) ⊎ Interrupted hd f m m'
 
 -- a format that is not refused: the device is laid out, and the answer is how many sectors were blanked; or a fault is told
@@ -85,20 +103,48 @@ abbrev pub Formats : ℕ → State → Meaning → List ℕ → (rate sitting : 
 Formats layer st m kinds rate sitting r st' m' =
     Decided (if_unmounted st (format_refusal m.size kinds rate)) r st m st' m' (Formatted layer (header_of kinds rate sitting) st m r st' m')
 
--- the work on its way: each sector holds what it held, or what a format writes to it
-pub record Touched (hd : Header) (m m' : Meaning) : Type 0 where
-  pub size : m'.size ≡ m.size
-  pub each : (t : ℕ) → Overwritten hd t (m.sector t) (m'.sector t)
+-- the blanks are not done: the fault stood before, of power or of sector 0, or is that of power that went off
+abbrev pub Unblanked : ℕ → Fault → Meaning → Meaning → Type 0
+Unblanked layer f m m' = ((standing layer m 0 ≡ Some f) × (m' ≡ m)) ⊎ LostInBlanks f m m'
+
+-- a sector is sick as before, or its newest content is zeros
+abbrev pub ShowsZeros : Sector → Sector → Type 0
+ShowsZeros (sick f) s' = s' ≡ sick f
+ShowsZeros (held old new) (sick f) = ⊥
+ShowsZeros (held old new) (held old' new') = new' ≡ zeros
 
 -- the first n sectors were gone through, so many of them blanked; once sector 0 was, power is known to have been on, and sector 0 well
-pub record Blanking (hd : Header) (m : Meaning) (n blanked : ℕ) (m' : Meaning) : Type 0 where
-  pub touched : Touched hd m m'
-  pub blank : (t : ℕ) → t < n → Shows zeros (m.sector t) (m'.sector t)
+pub record Blanking (m : Meaning) (n blanked : ℕ) (m' : Meaning) : Type 0 where
+  pub size : m'.size ≡ m.size
+  pub each : (t : ℕ) → Overwritten (m.sector t) (m'.sector t)
+  pub blank : (t : ℕ) → t < n → ShowsZeros (m.sector t) (m'.sector t)
   pub count : blanked ≡ well m n
   pub untouched : n ≡ 0 → m' ≡ m
   pub begun : 0 < n → (m.power ≡ Ok tt) × (sick_fault (m.sector 0) ≡ None)
 
 -- one step: sector n was blanked, or it is sick; or the work ends at a fault
-abbrev pub Wiped : ℕ → Header → Meaning → (n blanked : ℕ) → Result Bool Fault → Meaning → Type 0
-Wiped layer hd m n blanked (Ok b) m' = Blanking hd m (n + 1) (blanked + cond b 1 0) m'
-Wiped layer hd m n blanked (Err f) m' = LaidOut layer hd m (Err f) m'
+abbrev pub Wiped : ℕ → Meaning → (n blanked : ℕ) → Result Bool Fault → Meaning → Type 0
+Wiped layer m n blanked (Ok b) m' = Blanking m (n + 1) (blanked + cond b 1 0) m'
+Wiped layer m n blanked (Err f) m' = Unblanked layer f m m'
+
+-- all steps: every sector was gone through, and the answer is how many were blanked; or the work ends at a fault
+abbrev pub AllWiped : ℕ → Meaning → Result ℕ Fault → Meaning → Type 0
+AllWiped layer m (Ok n) m' = Blanking m m.size n m'
+AllWiped layer m (Err f) m' = Unblanked layer f m m'
+
+-- the blanks have settled: every sector was blanked. Power was on, and sector 0 was not sick.
+pub record AllZeroed (m m' : Meaning) : Type 0 where
+  pub size : m'.size ≡ m.size
+  pub power : m.power ≡ Ok tt
+  pub first : sick_fault (m.sector 0) ≡ None
+  pub each : (t : ℕ) → t < m.size → m'.sector t ≡ zeroed (m.sector t)
+
+-- the blanks: they have settled, and the answer is how many sectors were blanked; or the work ends at a fault
+abbrev pub Blanked : ℕ → Meaning → Result ℕ Fault → Meaning → Type 0
+Blanked layer m (Ok n) m' = (n ≡ well m m.size) × AllZeroed m m'
+Blanked layer m (Err f) m' = Unblanked layer f m m'
+
+-- the header on a device whose blanks have settled: it is written and has settled, or power went off
+abbrev pub HeaderWritten : Header → Meaning → Answer → Meaning → Type 0
+HeaderWritten hd m (Ok x) m' = Prepared hd m m'
+HeaderWritten hd m (Err f) m' = LostInHeader hd f m m'

@@ -7,3 +7,4 @@ pub mod Mounts
 pub mod Panel
 pub mod Runs
 pub mod Plays
+pub mod Exports

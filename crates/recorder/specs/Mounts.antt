@@ -35,22 +35,24 @@ pub record IsLog (hd : Header) (m : Meaning) (h : Log) : Type 0 where
   pub found : Found hd m h
   pub ends : Readable m (next_place h) → Continues hd h (newest (m.sector (next_place h))) → ⊥
 
--- an accepted mount: the recorder is mounted with the session of the device's log, and the answer is how many entries it has
+-- an accepted mount: power was on, the recorder is mounted with the session of the device's log, and the answer is how many entries it has
 pub record FoundLog (m : Meaning) (n : ℕ) (st' : State) (m' : Meaning) : Type 0 where
   pub session : Session
   pub log : Log
+  pub power : m.power ≡ Ok tt
   pub state : st' ≡ Mounted session
   pub is_log : IsLog session.header m log
   pub step : InStep session log
   pub count : n ≡ length log
   pub kept : Settled m m'
 
--- a mount that was not refused at once: it finds the log; or sector 0 is no header that a format writes; or it tells a fault that
--- stood before, of power or of sector 0; or power went off in it
+-- a mount that was not refused at once: it finds the log; or sector 0 was read, and is no header that a format writes; or it tells a
+-- fault that stood before, of power or of sector 0; or power went off in it
 abbrev pub Searched : ℕ → State → Meaning → Result ℕ Failed → State → Meaning → Type 0
 Searched layer st m (Ok n) st' m' = FoundLog m n st' m'
 Searched layer st m (Err (Refused x)) st' m' =
     (x ≡ NoRecording) × ((hd : Header) → Lawful hd → newest (m.sector 0) ≡ header_bytes hd → ⊥) × (st' ≡ st) × Settled m m'
+    × Readable m 0 × (m.power ≡ Ok tt)
 Searched layer st m (Err (Faulted call t k f)) st' m' =
     (call ≡ MountCall) × (t ≡ 0) × (k ≡ 0) × (st' ≡ st) × (((standing layer m 0 ≡ Some f) × (m' ≡ m)) ⊎ Lost f m m')
 
@@ -83,3 +85,15 @@ abbrev pub Sought : (start : Meaning) → Session → Result Bool Fault → Sess
 Sought start s (Ok true) s' m' = Seeking start s' m' × (s'.entries ≡ s.entries + 1)
 Sought start s (Ok false) s' m' = FoundLog start s'.entries (Mounted s') m'
 Sought start s (Err f) s' m' = Lost f start m'
+
+-- the header was read, on the device as it was at the start
+pub record HeaderFound (start : Meaning) (hd : Header) (m : Meaning) : Type 0 where
+  pub lawful : Lawful hd
+  pub header : newest (start.sector 0) ≡ header_bytes hd
+  pub power : start.power ≡ Ok tt
+  pub kept : Settled start m
+
+-- the whole search: the log is found; or power went off
+abbrev pub LogSought : (start : Meaning) → Result Session Fault → Meaning → Type 0
+LogSought start (Ok s) m' = FoundLog start s.entries (Mounted s) m'
+LogSought start (Err f) m' = Lost f start m'

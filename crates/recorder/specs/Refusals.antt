@@ -1,7 +1,8 @@
 -- Refusals: the number of each, and which is due.
-use Rattle.std.specs.Prelude.{ℕ, Bool, true, false, not, ◌&&◌, List, length, ◌==◌, nat_le, nat_lt, Option, Some, None, Result, Ok, Err}
+use Rattle.std.specs.Prelude.{ℕ, ◌+◌, ◌*◌, Bool, true, false, not, ◌&&◌, List, length, ◌==◌, nat_le, nat_lt, Option, Some, None, Result, Ok, Err}
 use Rattle.std.specs.List.{list_all}
 use Rattle.element.specs.declared.kind.Kind.{Kind}
+use Rattle.element.specs.declared.kind.Kind.TheVariants.{Sound}
 use Rattle.element.specs.Kinds.{kind_number, capacity_of}
 use Rattle.takes.specs.Table.{is_open, open_on, withdrawn_by, end_of}
 use Rattle.journal.specs.declared.session.Session.{Session}
@@ -12,7 +13,7 @@ use Rattle.recorder.specs.declared.State.TheVariants.{Unmounted, Mounted, Armed}
 use Rattle.recorder.specs.declared.call.Call.{Call}
 use Rattle.recorder.specs.declared.call.Call.TheVariants.{Format, Mount, Arm, Save, Begin, End, Withdraw}
 use Rattle.recorder.specs.declared.refusal.Refusal.{Refusal}
-use Rattle.recorder.specs.declared.refusal.Refusal.TheVariants.{TooSmall, NotUnmounted, BadTracks, BadRate, NotMounted, NoRecording, AlreadyArmed, NotArmed, NoSuchTrack, NoSuchTake, NotOpen, TakeOpen, BeyondEnd, TooManyTakes, OtherKind, BadCount, Full, NoneStanding, Unlawful}
+use Rattle.recorder.specs.declared.refusal.Refusal.TheVariants.{TooSmall, NotUnmounted, BadTracks, BadRate, NotMounted, NoRecording, AlreadyArmed, NotArmed, NoSuchTrack, NoSuchTake, NotOpen, TakeOpen, BeyondEnd, TooManyTakes, OtherKind, BadCount, Full, NoneStanding, TooShort, Unlawful}
 
 -- the number that stands for a refusal
 abbrev pub refusal_number : Refusal → ℕ
@@ -34,6 +35,7 @@ refusal_number OtherKind = 15
 refusal_number BadCount = 16
 refusal_number Full = 17
 refusal_number NoneStanding = 18
+refusal_number TooShort = 19
 refusal_number Unlawful = 20
 
 -- where the test fails the refusal is due, and else what follows decides
@@ -64,6 +66,10 @@ has_place kind n = nat_le 1 n && nat_le n (capacity_of kind)
 -- where track t ends
 abbrev pub track_end : Session → ℕ → ℕ
 track_end s t = end_of (table_of s) t s.table.inner.count
+
+-- how many bytes the WAVE file of track t has: the header's, and two for each sample
+abbrev pub file_length : Session → ℕ → ℕ
+file_length s t = 44 + 2 * track_end s t
 
 -- the take that a withdrawal on track t takes, or 0 where none is standing
 abbrev pub chosen : Session → ℕ → ℕ
@@ -110,6 +116,11 @@ withdraw_refusal s size t =
 abbrev pub play_refusal : Session → ℕ → Kind → ℕ → Option Refusal
 play_refusal s t kind from =
     unless (has_track s t) NoSuchTrack (unless (kind_number kind == kind_number (kind_of s.header t)) OtherKind (unless (nat_le from (track_end s t)) BeyondEnd None))
+
+-- which refusal is due of an export of track t, into a buffer of so many bytes
+abbrev pub export_refusal : Session → (t size : ℕ) → Option Refusal
+export_refusal s t size =
+    unless (has_track s t) NoSuchTrack (unless (kind_number Sound == kind_number (kind_of s.header t)) OtherKind (unless (nat_le (file_length s t) size) TooShort None))
 
 -- a call that only an unmounted recorder does is refused by every other, and else what follows decides
 abbrev pub if_unmounted : State → Option Refusal → Option Refusal

@@ -1,5 +1,5 @@
-// What is asked of a recorder, as far as it is numbers. A record's elements and a play's slice are beside it, so those two calls are not
-// among these.
+// What is asked of a recorder, as far as it is numbers. A record's elements, a play's slice and an export's buffer are beside it, so those
+// three calls are not among these.
 
 // A call with its arguments.
 #[derive(Clone, Copy)]

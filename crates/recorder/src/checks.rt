@@ -1,12 +1,15 @@
 // Which refusal is due of a call, as far as its session decides: the tests in their order, each with its refusal.
-ghost use Rattle.std.specs.Prelude.{◌≡◌, length};
+ghost use Rattle.std.specs.Prelude.{◌≡◌, ◌≤◌, length};
 ghost use Rattle.std.specs.List.{list_all};
-ghost use Rattle.recorder.specs.Refusals.{format_refusal, tracks_allowed, kind_known, has_track, has_take, has_place, has_room, chosen, passed, arm_refusal, begin_refusal, record_refusal, end_refusal, withdraw_refusal, play_refusal};
+ghost use Rattle.recorder.specs.Refusals.{format_refusal, tracks_allowed, kind_known, has_track, has_take, has_place, has_room, chosen, track_end, file_length, passed, arm_refusal, begin_refusal, record_refusal, end_refusal, withdraw_refusal, play_refusal, export_refusal};
 
 use crate::refusal::Refusal;
 use element::{Element, Kind};
 use journal::{HIGHEST_RATE, LOWEST_RATE, MOST_TRACKS, Session};
 use takes::State;
+
+// How many bytes the header of a WAVE file has.
+pub const HEADER_BYTES: usize = 44;
 
 // Whether the recording has the track.
 pub fn has_track(session: &Session, track: u8) -> bool
@@ -27,6 +30,21 @@ fn has_room(session: &Session, size: u32) -> bool
     ensures { result ≡ has_room session.now size }
 {
     session.place() < size
+}
+
+// How many samples the track has, if it is one of sound.
+pub fn samples_of(session: &Session, track: u8) -> u32
+    ensures value { result ≡ track_end session.now track }
+    ensures few { result ≤ 15728400 }
+{
+    session.track_end(track) as u32
+}
+
+// How many bytes the track's WAVE file has.
+pub fn file_length(session: &Session, track: u8) -> usize
+    ensures { result ≡ file_length session.now track }
+{
+    HEADER_BYTES + 2 * samples_of(session, track) as usize
 }
 
 // Whether every element is lawful.
@@ -142,4 +160,13 @@ pub fn play(session: &Session, track: u8, kind: Kind, from: u32) -> Result<(), R
     Refusal::NoSuchTrack.unless(has_track(session, track))?;
     Refusal::OtherKind.unless(session.header().kind(track) == kind)?;
     Refusal::BeyondEnd.unless(u64::from(from) <= session.track_end(track))
+}
+
+// Whether the track may be exported, into a buffer of so many bytes.
+pub fn export(session: &Session, track: u8, size: usize) -> Result<(), Refusal>
+    ensures { result ≡ passed (export_refusal session.now track size) }
+{
+    Refusal::NoSuchTrack.unless(has_track(session, track))?;
+    Refusal::OtherKind.unless(session.header().kind(track) == Kind::Sound)?;
+    Refusal::TooShort.unless(file_length(session, track) <= size)
 }

@@ -18,6 +18,7 @@ pub enum Name {
     End,
     Withdraw,
     Play,
+    Export,
 }
 
 // Why a call was not done: it is refused, or the device answered a fault, which is told whole, with the call, its track and its take

@@ -10,6 +10,7 @@ mod call;
 mod calls;
 mod checks;
 mod entry;
+mod export;
 mod failed;
 mod format;
 mod mount;

@@ -5,7 +5,7 @@ ghost use Rattle.journal.specs.Sessions.{session_place};
 ghost use Rattle.recorder.specs.declared.State.TheVariants.{Unmounted};
 ghost use Rattle.recorder.specs.declared.failed.Name.TheVariants.{Mount as MountCall};
 ghost use Rattle.recorder.specs.Answers.{told_result};
-ghost use Rattle.recorder.specs.Mounts.{Mounts, entries_by, mounted_by, Seeking, Sought};
+ghost use Rattle.recorder.specs.Mounts.{Mounts, entries_by, mounted_by, HeaderFound, Seeking, Sought, LogSought};
 
 use crate::entry::{blank, size_of};
 use crate::failed::Stopped;
@@ -19,8 +19,7 @@ fn extend<D: Device>(
     session: &mut Session,
     sector: &mut [u8; 512],
 ) -> Result<bool, Fault>
-    requires { session_place session.old < (D.Device.meaning device.old).size }
-    ensures { (start : Meaning) → Seeking start session.old (D.Device.meaning device.old) → Sought start session.old result session.new (D.Device.meaning device.new) }
+    ensures { (start : Meaning) → session_place session.old < start.size → Seeking start session.old (D.Device.meaning device.old) → Sought start session.old result session.new (D.Device.meaning device.new) }
 {
     match device.read(session.place(), sector) {
         Ok(()) => Ok(session.absorb(sector).is_some()),
@@ -29,20 +28,29 @@ fn extend<D: Device>(
     }
 }
 
-// The session of the device's log: of the longest run of entries in its sectors, from the first behind the header on.
-pub fn mount<D: Device>(device: &mut D) -> Result<Session, Stopped>
-    ensures { Mounts D.Device.layer Unmounted (D.Device.meaning device.old) (told_result MountCall 0 0 (entries_by result)) (mounted_by result) (D.Device.meaning device.new) }
+// The session of the log that begins with the header: of the longest run of entries in the sectors, from the first behind the header on.
+#[tactic(auto, using(crate::proofs::Search::found_all))]
+fn find_log<D: Device>(device: &mut D, header: Header) -> Result<Session, Fault>
+    ensures { (start : Meaning) → HeaderFound start header (D.Device.meaning device.old) → LogSought start result (D.Device.meaning device.new) }
 {
-    let size = size_of(device);
-    Refusal::TooSmall.unless(size >= 2)?;
-    let mut sector = blank();
-    device.read(0, &mut sector)?;
-    let header = Header::read(&sector).ok_or(Refusal::NoRecording)?;
     let mut session = Session::new(header);
-    for _ in 1..size {
+    let mut sector = blank();
+    for _ in 1..size_of(device) {
         if !extend(device, &mut session, &mut sector)? {
             break;
         }
     }
+    Ok(session)
+}
+
+// The session of the log that the device holds.
+pub fn mount<D: Device>(device: &mut D) -> Result<Session, Stopped>
+    ensures { Mounts D.Device.layer Unmounted (D.Device.meaning device.old) (told_result MountCall 0 0 (entries_by result)) (mounted_by result) (D.Device.meaning device.new) }
+{
+    Refusal::TooSmall.unless(size_of(device) >= 2)?;
+    let mut sector = blank();
+    device.read(0, &mut sector)?;
+    let header = Header::read(&sector).ok_or(Refusal::NoRecording)?;
+    let session = find_log(device, header)?;
     Ok(session)
 }

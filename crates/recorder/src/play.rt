@@ -1,28 +1,26 @@
 // Play: a track into a slice of the caller's.
-ghost use Rattle.std.specs.Prelude.{◌≡◌, Ok};
-ghost use Rattle.journal.specs.Headers.{kind_of};
+ghost use Rattle.std.specs.Prelude.{◌≡◌, ℕ, Ok};
 ghost use Rattle.recorder.specs.declared.failed.Name.TheVariants.{Play as PlayCall};
 ghost use Rattle.recorder.specs.Answers.{told_result};
-ghost use Rattle.recorder.specs.Plays.{Paints, PlaysBy, Plays};
+ghost use Rattle.recorder.specs.Plays.{played, Paints, PlaysBy, Plays};
 
 use crate::entry::blank;
 use crate::failed::Stopped;
 use crate::{Failed, Name, Recorder, Refusal, State, checks};
 use device::{Device, Fault};
-use element::Element;
+use element::{Cell, Element};
 use journal::Session;
 
-// Reads the sectors of the log in their order and paints each into the slice, which begins at the position of the track.
-fn paint_log<D: Device, E: Element>(
+// Reads the sectors of the log in their order and paints each into the slice, which begins at element `from` of the track.
+pub fn paint_log<D: Device, C: Cell>(
     device: &mut D,
     session: &Session,
     track: u8,
     from: u32,
-    out: &mut [E],
+    out: &mut [C],
 ) -> Result<(), Fault>
-    requires powered { (D.Device.meaning device.old).power ≡ Ok tt }
-    requires own_kind { kind_of session.now.header track ≡ E.Element.KIND }
-    ensures { Paints D.Device.layer E.Cell.value E.Cell.WIDTH session.now (D.Device.meaning device.old) track from out.old result (D.Device.meaning device.new) out.new }
+    requires { (D.Device.meaning device.old).power ≡ Ok tt }
+    ensures { Paints D.Device.layer session.now.entries (D.Device.meaning device.old) (λ n. played C.Cell.value C.Cell.WIDTH session.now (D.Device.meaning device.old) track from n out.old) result (D.Device.meaning device.new) out.new }
 {
     let mut sector = blank();
     for done in 0..session.entries() {

@@ -43,6 +43,8 @@ pub enum Refusal {
     Full = 17,
     #[error("no take of the track is standing")]
     NoneStanding = 18,
+    #[error("the buffer is shorter than the file")]
+    TooShort = 19,
     #[error("an element is not lawful")]
     Unlawful = 20,
 }

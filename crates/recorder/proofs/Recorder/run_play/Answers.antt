@@ -1,5 +1,8 @@
-use Rattle.recorder.specs.declared.State.TheVariants.{Armed}
+use Rattle.recorder.specs.declared.State.TheVariants.{Mounted, Armed}
 use Rattle.recorder.proofs.Recorder.run_play.Goals as goal
+
+pub returns-in-Mounted : goal.returns-in-Mounted
+returns-in-Mounted g c = rw c.in-Mounted.is (c.play_by.ensures (Mounted c.in-Mounted.session))
 
 pub returns-in-Armed : goal.returns-in-Armed
 returns-in-Armed g c =
