@@ -12,7 +12,6 @@ use Rattle.layers.specs.declared.fuse.Fuse.{Fuse}
 use Rattle.layers.specs.Fused.{unset, set_to, fuse_layer, fuse_meaning}
 use Rattle.layers.specs.WholeCuts.{under_fuse}
 use Rattle.script.specs.Said.{Said, Format, Mount, Arm, Begin, Sound, Mark, End, Withdraw, Play, Save, Cut, Fuse as FuseLine}
-use Rattle.script.specs.Meaning.{meaning}
 use Rattle.recorder.specs.declared.Recorder.{Recorder}
 use Rattle.recorder.specs.declared.State.TheVariants.{Unmounted}
 use Rattle.recorder.specs.declared.failed.Failed.{Failed}

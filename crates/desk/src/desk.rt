@@ -1,4 +1,4 @@
-// The recorder that a script works, and its commands.
+// The sitting that a script works, and its commands.
 ghost use Rattle.std.specs.Prelude.{◌≡◌, map, take, IfOk};
 ghost use Rattle.std.specs.Result.{result_map_both};
 ghost use Rattle.element.specs.Kinds.{kind_number};
@@ -14,8 +14,9 @@ use crate::answer::Answer;
 use device::CuttableDevice;
 use element::{Element, Kind, Mark};
 use layers::Fuse;
-use recorder::{Failed, Recorder};
+use recorder::Failed;
 use script::Command;
+use sitting::Sitting;
 use std::alloc::{AllocError, Global};
 
 // How many elements of a track are played at most.
@@ -28,25 +29,25 @@ const NO_MARK: Mark = Mark {
     event: 0,
 };
 
-// A recorder over a device with a fuse.
+// A sitting over a device with a fuse.
 #[derive(Drop)]
 pub struct Desk<D> {
-    recorder: Recorder<Fuse<D>>,
+    sitting: Sitting<Fuse<D>>,
 }
 
 impl<D: CuttableDevice + Drop> Desk<D> {
     // A recorder that is not mounted, and a fuse that is not set.
     pub fn new(device: D) -> Desk<D>
-        ensures { result.recorder ≡ record { device = record { counter = unset; inner = device }; state = Unmounted } }
+        ensures { result.sitting.recorder ≡ record { device = record { counter = unset; inner = device }; state = Unmounted } }
     {
         Desk {
-            recorder: Recorder::new(Fuse::new(device)),
+            sitting: Sitting::new(Fuse::new(device)),
         }
     }
 
     // Does what the line means, if it means anything. The desk is handed back, since after a cut it has another recorder.
     pub fn answer(self, alloc: Global, line: &[u8]) -> Result<(Desk<D>, Answer), AllocError>
-        ensures { IfOk result (λ made. Meant D.Device.meaning D.CuttableDevice.images D.CuttableDevice.below self.recorder (meaning line.now) made.1 made.0.recorder) }
+        ensures { IfOk result (λ made. Meant D.Device.meaning D.CuttableDevice.images D.CuttableDevice.below self.sitting.recorder (meaning line.now) made.1 made.0.sitting.recorder) }
     {
         match script::parse(alloc, line)? {
             Some(command) => self.obey(alloc, command),
@@ -56,7 +57,7 @@ impl<D: CuttableDevice + Drop> Desk<D> {
 
     // Does the command.
     fn obey(mut self, alloc: Global, command: Command) -> Result<(Desk<D>, Answer), AllocError>
-        ensures { IfOk result (λ made. Does D.Device.meaning D.CuttableDevice.images D.CuttableDevice.below self.recorder (said command) made.1 made.0.recorder) }
+        ensures { IfOk result (λ made. Does D.Device.meaning D.CuttableDevice.images D.CuttableDevice.below self.sitting.recorder (said command) made.1 made.0.sitting.recorder) }
     {
         let answer = match command {
             Command::Format {
@@ -65,20 +66,20 @@ impl<D: CuttableDevice + Drop> Desk<D> {
                 sitting,
             } => {
                 let kinds = numbers_of(alloc, &kinds)?;
-                self.recorder.format(&kinds, rate, sitting).into()
+                self.sitting.format(&kinds, rate, sitting).into()
             }
-            Command::Mount => self.recorder.mount().into(),
-            Command::Arm => self.recorder.arm().into(),
-            Command::Begin { track, position } => self.recorder.begin(track, position).into(),
-            Command::Sound { take, samples } => self.recorder.record(take, &samples).into(),
-            Command::Mark { take, mark } => self.recorder.record(take, &[mark]).into(),
-            Command::End { take } => self.recorder.end(take).into(),
-            Command::Withdraw { track } => self.recorder.withdraw(track).into(),
+            Command::Mount => self.sitting.mount().into(),
+            Command::Arm => self.sitting.arm().into(),
+            Command::Begin { track, position } => self.sitting.begin(track, position).into(),
+            Command::Sound { take, samples } => self.sitting.record(take, &samples).into(),
+            Command::Mark { take, mark } => self.sitting.record(take, &[mark]).into(),
+            Command::End { take } => self.sitting.end(take).into(),
+            Command::Withdraw { track } => self.sitting.withdraw(track).into(),
             Command::Play { track } => self.play(alloc, track)?,
-            Command::Save => self.recorder.save().into(),
+            Command::Save => self.sitting.save().into(),
             Command::Cut { plan } => return Ok((self.cut(&plan), Answer::Cut)),
             Command::Fuse { count } => {
-                self.recorder.device.set(count);
+                self.sitting.recorder.device.set(count);
                 Answer::Done
             }
         };
@@ -87,20 +88,18 @@ impl<D: CuttableDevice + Drop> Desk<D> {
 
     // Cuts the power, and goes on with a new recorder over what was left.
     fn cut(self, plan: &[u8]) -> Desk<D>
-        ensures { PowerCut D.Device.meaning D.CuttableDevice.images D.CuttableDevice.below plan.now self.recorder result.recorder }
+        ensures { PowerCut D.Device.meaning D.CuttableDevice.images D.CuttableDevice.below plan.now self.sitting.recorder result.sitting.recorder }
     {
-        let mut device = self.recorder.into_device();
-        device.cut(plan);
         Desk {
-            recorder: Recorder::new(device),
+            sitting: self.sitting.cut(plan),
         }
     }
 
     // Plays a track from its start. A track that does not exist is asked for sound, and refused.
     fn play(&mut self, alloc: Global, track: u8) -> Result<Answer, AllocError>
-        ensures { IfOk result (λ answer. TrackPlayed D.Device.meaning (kind_on self.old.recorder.state track) self.old.recorder track answer self.new.recorder) }
+        ensures { IfOk result (λ answer. TrackPlayed D.Device.meaning (kind_on self.old.sitting.recorder.state track) self.old.sitting.recorder track answer self.new.sitting.recorder) }
     {
-        match self.recorder.kind(track) {
+        match self.sitting.recorder.kind(track) {
             Some(Kind::Mark) => Ok(
                 self.played(alloc, track, &mut [NO_MARK; MOST_PLAYED])?
                     .map_or_else(Answer::from, Answer::Marks),
@@ -119,9 +118,9 @@ impl<D: CuttableDevice + Drop> Desk<D> {
         track: u8,
         slice: &mut [E],
     ) -> Result<Result<Vec<E>, Failed>, AllocError>
-        ensures { IfOk result (λ found. Played (λ r out. Plays fuse_layer E.Element.KIND E.Cell.value E.Cell.WIDTH self.old.recorder.state (fuse_meaning D.Device.meaning self.old.recorder.device) track 0 slice.old r self.new.recorder.state (fuse_meaning D.Device.meaning self.new.recorder.device) out) (result_map_both (λ elements. elements.items) (λ why. why) found)) }
+        ensures { IfOk result (λ found. Played (λ r out. Plays fuse_layer E.Element.KIND E.Cell.value E.Cell.WIDTH self.old.sitting.recorder.state (fuse_meaning D.Device.meaning self.old.sitting.recorder.device) track 0 slice.old r self.new.sitting.recorder.state (fuse_meaning D.Device.meaning self.new.sitting.recorder.device) out) (result_map_both (λ elements. elements.items) (λ why. why) found)) }
     {
-        match self.recorder.play(track, 0, slice) {
+        match self.sitting.play(track, 0, slice) {
             Ok(count) => Ok(Ok(first(alloc, slice, count)?)),
             Err(failed) => Ok(Err(failed)),
         }

@@ -1,0 +1,6 @@
+pub mod Books
+pub mod Events
+pub mod Sittings
+pub mod Claims
+pub mod Office
+pub mod Examples
