@@ -1,12 +1,16 @@
 // The work of an armed recorder: the calls that add an entry.
-ghost use Rattle.std.specs.Prelude.{◌≡◌, ◌+◌, ◌≤◌};
+ghost use Rattle.std.specs.Prelude.{◌≡◌, ◌+◌, ◌<◌, ◌≤◌, [], length, OnOk};
+ghost use Rattle.std.specs.List.{list_all};
+ghost use Rattle.std.specs.Result.{result_err};
+ghost use Rattle.device.specs.Calls.{Writes};
 ghost use Rattle.sector.specs.Layout.{payload_of};
-ghost use Rattle.journal.specs.Sessions.{table_of, SessionFollows};
+ghost use Rattle.journal.specs.Sessions.{table_of, session_place, SessionFollows, Adds};
 
 use crate::State;
 use crate::checks::{self, chosen};
 use crate::entry::{blank, packed, size_of, write};
 use crate::failed::{Name, Stopped};
+use crate::refusal::Refusal;
 use device::{Device, Fault};
 use element::Element;
 use journal::Session;
@@ -21,22 +25,47 @@ pub struct ArmedSession {
 
 impl ArmedSession {
     // Here, and not at the head of the file, since these definitions name the struct.
-    ghost use Rattle.recorder.specs.Refusals.{chosen};
+    ghost use Rattle.recorder.specs.Refusals.{chosen, begin_refusal, record_refusal, end_refusal, withdraw_refusal};
     ghost use Rattle.recorder.specs.Answers.{told_result};
     ghost use Rattle.recorder.specs.Runs.{epoch_by, armed_by};
-    ghost use Rattle.recorder.specs.Entries.{Entered, AddedBy, Arms, Begins, Records, Ends, Withdraws};
+    ghost use Rattle.recorder.specs.Entries.{Entered, AddedBy, Arms, Arming, Begins, Records, Ends, Withdraws, next_sector};
 
     // Writes the opening of a new epoch; the answer is the session that the recorder is armed with.
     pub fn open<D: Device>(device: &mut D, session: &Session) -> Result<ArmedSession, Stopped>
         ensures { Arms D.Device.layer (State.Mounted session.now) (D.Device.meaning device.old) (told_result Name.Arm 0 0 (epoch_by result)) (armed_by session.now result) (D.Device.meaning device.new) }
     {
         checks::arm(session, size_of(device))?;
+        Self::start(device, session)
+    }
+
+    // Starts the epoch: the opening is written between two flushes.
+    fn start<D: Device>(device: &mut D, session: &Session) -> Result<ArmedSession, Stopped>
+        requires { session.now.entries < 65535 }
+        ensures { Arming D.Device.layer session.now (D.Device.meaning device.old) (told_result Name.Arm 0 0 (epoch_by result)) (armed_by session.now result) (D.Device.meaning device.new) }
+    {
         device.flush()?; // now no older entry can be missing below the opening
-        write(device, session, Outline::Opening, &mut blank())?;
+        Self::write_opening(device, session)?;
         device.flush()?; // now the opening is there
+        Ok(Self::opened(session))
+    }
+
+    // Writes the opening at the session's next place.
+    fn write_opening<D: Device>(device: &mut D, session: &Session) -> Result<(), Fault>
+        requires { session.now.entries < 65535 }
+        ensures { Writes D.Device.layer (D.Device.meaning device.old) (session_place session.now) (next_sector session.now Outline.Opening []) result (D.Device.meaning device.new) }
+    {
+        write(device, session, Outline::Opening, &mut blank())
+    }
+
+    // The session with the opening as its newest entry.
+    fn opened(session: &Session) -> ArmedSession
+        requires { session.now.entries < 65535 }
+        ensures adds { Adds session.now Outline.Opening result.session }
+        ensures epoch { result.session.epoch ≡ session.now.epoch + 1 }
+    {
         let mut session = *session;
         session.add(Outline::Opening);
-        Ok(ArmedSession { session })
+        ArmedSession { session }
     }
 
     // The session itself.
@@ -76,6 +105,14 @@ impl ArmedSession {
         Ok(answer)
     }
 
+    // Tests a begin on the device. If it passes, its entry may follow.
+    fn check_begin<D: Device>(&self, device: &D, track: u8, position: u32) -> Result<(), Refusal>
+        ensures due { result_err result ≡ begin_refusal self.now.session (D.Device.meaning device.now).size track position }
+        ensures follows { OnOk result (SessionFollows self.now.session (Outline.Begin track position)) }
+    {
+        checks::begin(&self.session, size_of(device), track, position)
+    }
+
     // Begins a take on the track at the position.
     pub fn begin<D: Device>(
         &mut self,
@@ -85,9 +122,23 @@ impl ArmedSession {
     ) -> Result<u32, Stopped>
         ensures { Begins D.Device.layer (State.Armed self.old) (D.Device.meaning device.old) track position (told_result Name.Begin track (self.old.session.table.inner.count + 1) result) (State.Armed self.new) (D.Device.meaning device.new) }
     {
-        checks::begin(&self.session, size_of(device), track, position)?;
+        self.check_begin(device, track, position)?;
         let take = self.session.takes() + 1;
         self.add(device, Outline::Begin { track, position }, blank(), take)
+    }
+
+    // Tests a record on the device. If it passes, its block may follow.
+    #[tactic(auto, using(crate::proofs::Decides::record_due))]
+    fn check_record<D: Device, E: Element>(
+        &self,
+        device: &D,
+        take: u32,
+        elements: &[E],
+    ) -> Result<(), Refusal>
+        ensures due { result_err result ≡ record_refusal self.now.session (D.Device.meaning device.now).size take E.Element.KIND (length elements.now) (list_all E.Element.lawful elements.now) }
+        ensures follows { OnOk result (SessionFollows self.now.session (Outline.Block take (length elements.now))) }
+    {
+        checks::record(&self.session, size_of(device), take, elements)
     }
 
     // Records the elements into the take, as one block.
@@ -99,7 +150,7 @@ impl ArmedSession {
     ) -> Result<u32, Stopped>
         ensures { Records D.Device.layer E.Element.KIND E.Element.lawful E.Element.bytes (State.Armed self.old) (D.Device.meaning device.old) take elements.now (told_result Name.Record (table_of self.old.session take).track take result) (State.Armed self.new) (D.Device.meaning device.new) }
     {
-        checks::record(&self.session, size_of(device), take, elements)?;
+        self.check_record(device, take, elements)?;
         let count = elements.len() as u16;
         let len = self.session.row(take).len + u32::from(count);
         self.add(
@@ -110,20 +161,36 @@ impl ArmedSession {
         )
     }
 
+    // Tests an end on the device. If it passes, its trailer may follow.
+    fn check_end<D: Device>(&self, device: &D, take: u32) -> Result<(), Refusal>
+        ensures due { result_err result ≡ end_refusal self.now.session (D.Device.meaning device.now).size take }
+        ensures follows { OnOk result (SessionFollows self.now.session (Outline.Trailer take)) }
+    {
+        checks::end(&self.session, size_of(device), take)
+    }
+
     // Ends the take.
     pub fn end<D: Device>(&mut self, device: &mut D, take: u32) -> Result<u32, Stopped>
         ensures { Ends D.Device.layer (State.Armed self.old) (D.Device.meaning device.old) take (told_result Name.End (table_of self.old.session take).track take result) (State.Armed self.new) (D.Device.meaning device.new) }
     {
-        checks::end(&self.session, size_of(device), take)?;
+        self.check_end(device, take)?;
         let len = self.session.row(take).len;
         self.add(device, Outline::Trailer { take }, blank(), len)
+    }
+
+    // Tests a withdrawal on the device. If it passes, its entry may follow.
+    fn check_withdraw<D: Device>(&self, device: &D, track: u8) -> Result<(), Refusal>
+        ensures due { result_err result ≡ withdraw_refusal self.now.session (D.Device.meaning device.now).size track }
+        ensures follows { OnOk result (SessionFollows self.now.session (Outline.Withdrawal track (chosen self.now.session track))) }
+    {
+        checks::withdraw(&self.session, size_of(device), track)
     }
 
     // Withdraws the take of the track that is chosen.
     pub fn withdraw<D: Device>(&mut self, device: &mut D, track: u8) -> Result<u32, Stopped>
         ensures { Withdraws D.Device.layer (State.Armed self.old) (D.Device.meaning device.old) track (told_result Name.Withdraw track (chosen self.old.session track) result) (State.Armed self.new) (D.Device.meaning device.new) }
     {
-        checks::withdraw(&self.session, size_of(device), track)?;
+        self.check_withdraw(device, track)?;
         let take = chosen(&self.session, track);
         self.add(device, Outline::Withdrawal { track, take }, blank(), take)
     }

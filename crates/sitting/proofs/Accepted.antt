@@ -7,28 +7,28 @@ use Rattle.device.specs.Meaning.{Meaning}
 use Rattle.device.specs.Meaning
 use Rattle.device.specs.Calls.{Writes}
 use Rattle.element.specs.declared.kind.Kind.{Kind}
-use Rattle.takes.specs.declared.Outline.TheVariants.{Block as BlockEntry, Withdrawal as WithdrawalEntry}
-use Rattle.takes.specs.Entries.{block, withdrawal}
+use Rattle.takes.specs.declared.Outline.TheVariants.{Begin as BeginEntry, Block as BlockEntry, Trailer as TrailerEntry, Withdrawal as WithdrawalEntry}
+use Rattle.takes.specs.Entries.{begin, block, trailer, withdrawal}
 use Rattle.takes.specs.Takes.{takes}
 use Rattle.journal.specs.declared.header.Header.{Header}
 use Rattle.journal.specs.Headers.{Lawful as LawfulHeader}
 use Rattle.journal.specs.Log.{LogEntry, Log, LawfulElement, Run}
 use Rattle.journal.specs.Sessions.{table_of}
 use Rattle.recorder.specs.declared.State.{State}
-use Rattle.recorder.specs.declared.call.Call.TheVariants.{Withdraw}
+use Rattle.recorder.specs.declared.call.Call.TheVariants.{Begin, End, Withdraw}
 use Rattle.recorder.specs.declared.failed.Name.{Name}
-use Rattle.recorder.specs.declared.failed.Name.TheVariants.{Record as RecordCall, Withdraw as WithdrawCall}
+use Rattle.recorder.specs.declared.failed.Name.TheVariants.{Begin as BeginCall, Record as RecordCall, End as EndCall, Withdraw as WithdrawCall}
 use Rattle.recorder.specs.declared.failed.Failed.{Failed}
 use Rattle.recorder.specs.declared.failed.Failed.TheVariants.{Refused}
 use Rattle.recorder.specs.declared.refusal.Refusal.{Refusal}
-use Rattle.recorder.specs.Refusals.{passed, refusal, if_armed, chosen, record_refusal, withdraw_refusal}
+use Rattle.recorder.specs.Refusals.{passed, refusal, if_armed, chosen, begin_refusal, record_refusal, end_refusal, withdraw_refusal}
 use Rattle.recorder.specs.Answers.{answered, Decided}
-use Rattle.recorder.specs.Entries.{Added, Records, Withdraws}
+use Rattle.recorder.specs.Entries.{Added, Begins, Records, Ends, Withdraws}
 use Rattle.recorder.proofs.Devices.{wrote}
-use Rattle.recorder.proofs.Follows.{record_follows, withdraw_follows}
+use Rattle.recorder.proofs.Follows.{begin_follows, record_follows, end_follows, withdraw_follows}
 use Rattle.sitting.specs.Events.{Item, Events, book}
 use Rattle.sitting.specs.Sittings.{Honest, Sitting}
-use Rattle.sitting.specs.Claims.{WhereAccepted, PunchedIn, OtherTracksStay, Restored}
+use Rattle.sitting.specs.Claims.{WhereAccepted, PunchedIn, OtherTracksStay, TracksStay, Restored}
 use Rattle.sitting.proofs.Runs.{Recorder, unmounted, mounted, armed}
 use Rattle.sitting.proofs.Runs
 use Rattle.sitting.proofs.Invariants.{agreed}
@@ -38,7 +38,7 @@ use Rattle.sitting.proofs.Links.{Goes}
 use Rattle.sitting.proofs.Additions.{runs}
 use Rattle.sitting.proofs.Entering.{of_armed, allowed, lawful_elements}
 use Rattle.sitting.proofs.Abstraction.{sitting_lawful, abstracted}
-use Rattle.sitting.proofs.Tracks.{punched_in, block_stays, restored, withdrawal_stays}
+use Rattle.sitting.proofs.Tracks.{punched_in, block_stays, restored, withdrawal_stays, begin_stays, trailer_stays}
 
 -- the entry was admitted after those that the theory's recorder goes by, and power was on
 abbrev Entered : Header → Meaning → Recorder LogEntry → LogEntry → Type 0
@@ -78,6 +78,34 @@ module _ (layer : ℕ) (hd : Header) (st : State) (r : Recorder LogEntry) (g : G
             (record_follows s m.size k kind (length items) (length xs) lawful (passed (record_refusal s m.size k kind (length items) lawful)) long a.opened law.size refl (ap passed due))
             (subst (λ (x : Kind). All (LawfulElement x) xs) may.kind_same (lawful_elements kind items honest may.all)),
         had_power layer _ _ m m' RecordCall (table_of s k).track k ((table_of s k).len + length items) n c.write c.did (sym c.says ∙ ok),
+      )) e)
+
+  begin_entered : (t p : ℕ) → Begins layer st m t p answer st' m' → Entered hd m r (begin t p)
+  begin_entered t p =
+      done _ (Entered hd m r (begin t p)) (refusal st m.size (Begin t p))
+      (λ e d. of_armed hd st r
+      (λ u s. Added layer u s (BeginEntry t p) [] BeginCall t (s.table.inner.count + 1) (s.table.inner.count + 1) m answer st' m')
+      (λ u v. refusal u m.size (Begin t p) ≡ None → Entered hd m v (begin t p)) g d
+      (λ a h keeps c due.
+      let s = a.session in (
+        h,
+        refl,
+        runs hd s h keeps (begin t p) (begin_follows s m.size t p (passed (begin_refusal s m.size t p)) a.opened law.size refl (ap passed due)) tt,
+        had_power layer _ _ m m' BeginCall t (s.table.inner.count + 1) (s.table.inner.count + 1) n c.write c.did (sym c.says ∙ ok),
+      )) e)
+
+  end_entered : (k : ℕ) → Ends layer st m k answer st' m' → Entered hd m r (trailer k)
+  end_entered k =
+      done _ (Entered hd m r (trailer k)) (refusal st m.size (End k))
+      (λ e d. of_armed hd st r
+      (λ u s. Added layer u s (TrailerEntry k) [] EndCall (table_of s k).track k (table_of s k).len m answer st' m')
+      (λ u v. refusal u m.size (End k) ≡ None → Entered hd m v (trailer k)) g d
+      (λ a h keeps c due.
+      let s = a.session in (
+        h,
+        refl,
+        runs hd s h keeps (trailer k) (end_follows s m.size k (passed (end_refusal s m.size k)) a.opened law.size refl (ap passed due)) tt,
+        had_power layer _ _ m m' EndCall (table_of s k).track k (table_of s k).len n c.write c.did (sym c.says ∙ ok),
       )) e)
 
   -- the take that a withdrawal answers is the one that it chose
@@ -143,3 +171,13 @@ module _ (layer : ℕ) (hd : Header) (es : Events) (st : State) (m : Meaning) (s
   pub withdraw_leaves_others : (t : ℕ) (answer : Result ℕ Failed) → Withdraws layer st m t answer st' m'
       → WhereAccepted answer (λ k. OtherTracksStay (book es).entries (withdrawal t k) t)
   withdraw_leaves_others t answer did = record { so = λ n ok. withdrawal_stays hd (book es).entries t n (withdraw_follows_book t n answer ok did) }
+
+  pub begin_leaves_tracks : (t p : ℕ) (answer : Result ℕ Failed) → Begins layer st m t p answer st' m' → WhereAccepted answer (λ n. TracksStay (book es).entries (begin t p))
+  begin_leaves_tracks t p answer did = record {
+    so = λ n ok. begin_stays hd (book es).entries t p (follows_book (begin t p) (λ r g law. begin_entered layer hd st r g m law st' m' n answer ok t p did));
+  }
+
+  pub end_leaves_tracks : (k : ℕ) (answer : Result ℕ Failed) → Ends layer st m k answer st' m' → WhereAccepted answer (λ n. TracksStay (book es).entries (trailer k))
+  end_leaves_tracks k answer did = record {
+    so = λ n ok. trailer_stays hd (book es).entries k (follows_book (trailer k) (λ r g law. end_entered layer hd st r g m law st' m' n answer ok k did));
+  }

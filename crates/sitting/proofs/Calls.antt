@@ -5,7 +5,7 @@ use Rattle.std.proofs.lemmas.List.{length-map}
 use Rattle.std.proofs.lemmas.List.Folds.{list_all-map, flat_map-map}
 use Rattle.std.proofs.lemmas.List.Elements.{All-map}
 use Rattle.takes.specs.declared.Outline.TheVariants.{Block as BlockEntry}
-use Rattle.takes.specs.Entries.{block, withdrawal}
+use Rattle.takes.specs.Entries.{begin, block, trailer, withdrawal}
 use Rattle.takes.specs.Takes.{takes}
 use Rattle.journal.specs.Log.{LawfulElement}
 use Rattle.journal.specs.Sessions.{table_of}
@@ -29,9 +29,9 @@ use Rattle.recorder.specs.Mounts.{Mounts}
 use Rattle.recorder.specs.Entries.{Added, Arms, Begins, Records, Ends, Withdraws, Saves}
 use Rattle.recorder.specs.Plays.{Plays}
 use Rattle.recorder.specs.Exports.{Exports}
-use Rattle.sitting.specs.Claims.{WhereAccepted, FindsBook, FindsSaved, PunchedIn, OtherTracksStay, Restored, PlaysLog, track_bytes, ExportsLog}
+use Rattle.sitting.specs.Claims.{WhereAccepted, FindsBook, FindsSaved, PunchedIn, OtherTracksStay, TracksStay, Restored, PlaysLog, track_bytes, ExportsLog}
 use Rattle.sitting.proofs.Finding.{mount_finds_book, mount_finds_what_was_saved}
-use Rattle.sitting.proofs.Accepted.{record_punches, record_leaves_others, withdraw_restores_track, withdraw_leaves_others}
+use Rattle.sitting.proofs.Accepted.{record_punches, record_leaves_others, withdraw_restores_track, withdraw_leaves_others, begin_leaves_tracks, end_leaves_tracks}
 use Rattle.sitting.proofs.Playing.{play_looks, play_shows_log}
 use Rattle.sitting.proofs.Exporting.{export_looks, export_writes_log, export_readable_file}
 use Rattle.sitting.specs.Events.{Item, items_of, book, Asked, Format, Mount, Arm, Begin, Record, End, Withdraw, Save, Play, Export}
@@ -69,6 +69,15 @@ module _ {D : Type 0} (means : D → Meaning) (layer : ℕ) (d d' : Recorder D) 
 
   pub begin_leads : (t p : ℕ) (r : Result ℕ Failed) → Begins layer d.state (means d.device) t p r d'.state (means d'.device) → Leads means layer (Begin t p) r d d'
   begin_leads t p r did = leads (Begin t p) r did
+
+  -- a begin and an end change no track
+  pub begin_leaves : (t p : ℕ) (r : Result ℕ Failed) → Begins layer d.state (means d.device) t p r d'.state (means d'.device)
+      → InSittings means layer d (λ hd es. WhereAccepted r (λ n. TracksStay (book es).entries (begin t p)))
+  begin_leaves t p r did = record { holds = λ hd es z. begin_leaves_tracks layer hd es d.state (means d.device) d'.state (means d'.device) z t p r did }
+
+  pub end_leaves : (k : ℕ) (r : Result ℕ Failed) → Ends layer d.state (means d.device) k r d'.state (means d'.device)
+      → InSittings means layer d (λ hd es. WhereAccepted r (λ n. TracksStay (book es).entries (trailer k)))
+  end_leaves k r did = record { holds = λ hd es z. end_leaves_tracks layer hd es d.state (means d.device) d'.state (means d'.device) z k r did }
 
   pub end_leads : (k : ℕ) (r : Result ℕ Failed) → Ends layer d.state (means d.device) k r d'.state (means d'.device) → Leads means layer (End k) r d d'
   end_leads k r did = leads (End k) r did

@@ -1,16 +1,15 @@
 -- What a record and a withdrawal make of the tracks.
 use Rattle.std.proofs.Common.{◌≡◌, ℕ, Bool, cond, List, ◌∷◌, sym, refl, ap, ◌∙◌, subst, eq-eqb}
 use Rattle.takes.specs.declared.State.TheVariants.{Open}
-use Rattle.takes.specs.Entries.{block, withdrawal}
+use Rattle.takes.specs.Entries.{begin, block, trailer, withdrawal, next_place}
 use Rattle.takes.specs.Takes.{longer, takes}
-use Rattle.takes.specs.Entries.{next_place}
 use Rattle.takes.specs.Tracks.{splice, track}
 use Rattle.takes.proofs.Contents.{others_stay}
 use Rattle.takes.proofs.Punches.{punches, restores}
 use Rattle.journal.specs.declared.header.Header.{Header}
 use Rattle.journal.specs.Log.{Log, Run}
 use Rattle.journal.proofs.InStep.{table_run}
-use Rattle.sitting.specs.Claims.{PunchedIn, Restored, OtherTracksStay}
+use Rattle.sitting.specs.Claims.{PunchedIn, Restored, OtherTracksStay, TracksStay}
 
 module _ (hd : Header) (h : Log) where
   -- a take stays open with a block more
@@ -31,3 +30,9 @@ module _ (hd : Header) (h : Log) where
 
   pub withdrawal_stays : (t k : ℕ) → Run hd (withdrawal t k ∷ h) → OtherTracksStay h (withdrawal t k) t
   withdrawal_stays t k r s ne = others_stay h (withdrawal t k) s (table_run hd (withdrawal t k ∷ h) r) (λ e. ne (sym e))
+
+  pub begin_stays : (t p : ℕ) → Run hd (begin t p ∷ h) → TracksStay h (begin t p)
+  begin_stays t p r s = others_stay h (begin t p) s (table_run hd (begin t p ∷ h) r) (λ e. e)
+
+  pub trailer_stays : (k : ℕ) → Run hd (trailer k ∷ h) → TracksStay h (trailer k)
+  trailer_stays k r s = others_stay h (trailer k) s (table_run hd (trailer k ∷ h) r) (λ e. e)

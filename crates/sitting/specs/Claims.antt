@@ -89,6 +89,10 @@ PunchedIn h k = (later b : Log) (t p : ℕ) → h ≡ later ++ (begin t p ∷ b)
 abbrev pub OtherTracksStay : Log → LogEntry → ℕ → Type 0
 OtherTracksStay h e t = (s : ℕ) → s ≢ t → track (e ∷ h) s ≡ track h s
 
+-- an entry more changes no track at all
+abbrev pub TracksStay : Log → LogEntry → Type 0
+TracksStay h e = (s : ℕ) → track (e ∷ h) s ≡ track h s
+
 -- a withdrawal of take k: its track is what it was before the take began
 abbrev pub Restored : Log → (t k : ℕ) → Type 0
 Restored h t k = (later b : Log) (s p : ℕ) → h ≡ later ++ (begin s p ∷ b) → k ≡ suc (count b)

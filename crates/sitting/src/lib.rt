@@ -6,7 +6,7 @@
 ghost use Rattle.std.specs.Prelude.{◌≡◌, ◌≢◌, ℕ, List, ◌∷◌, [], map, length, take};
 ghost use Rattle.device.specs.Meaning.{Meaning};
 ghost use Rattle.device.specs.Cuts.{EachCut, cut_by};
-ghost use Rattle.takes.specs.Entries.{block, withdrawal};
+ghost use Rattle.takes.specs.Entries.{begin, block, trailer, withdrawal};
 ghost use Rattle.takes.specs.Takes.{takes};
 ghost use Rattle.journal.specs.declared.header.Header.{Header};
 ghost use Rattle.recorder.specs.declared.State.TheVariants.{Unmounted};
@@ -18,7 +18,7 @@ ghost use Rattle.recorder.specs.Exports.{Exports};
 ghost use Rattle.wave.specs.Export.{Exported};
 ghost use Rattle.sitting.specs.Events.{Item, items_of, Asked, Format, Mount, Arm, Begin, Record, End, Withdraw, Save, Play, Export, called, cut, Events, book};
 ghost use Rattle.sitting.specs.Sittings.{numbered, Begun, Resumes, Leads, CutLeads, InSittings};
-ghost use Rattle.sitting.specs.Claims.{WhereAccepted, Names, NamesWithin, place_of, FindsBook, FindsSaved, PunchedIn, OtherTracksStay, Restored, PlaysLog, track_bytes, ExportsLog};
+ghost use Rattle.sitting.specs.Claims.{WhereAccepted, Names, NamesWithin, place_of, FindsBook, FindsSaved, PunchedIn, OtherTracksStay, TracksStay, Restored, PlaysLog, track_bytes, ExportsLog};
 
 mod example;
 mod office;
@@ -78,13 +78,13 @@ impl<D: CuttableDevice> Sitting<D> {
     }
 
     // Begins a take on the track at the position; the answer is the take's number.
-    #[tactic(auto, using(crate::proofs::Calls::begin_leads, crate::proofs::Faults::begin_names))]
     pub fn begin(&mut self, track: u8, position: u32) -> Result<u32, Failed>
         ensures does { Begins D.Device.layer self.old.recorder.state (D.Device.meaning self.old.recorder.device) track position result self.new.recorder.state (D.Device.meaning self.new.recorder.device) }
         ensures on { Leads D.Device.meaning D.Device.layer (Begin track position) result self.old.recorder self.new.recorder }
         ensures named { Names D.Device.pile (place_of self.old.recorder.state) result }
+        ensures tracks_stay { InSittings D.Device.meaning D.Device.layer self.old.recorder (λ hd es. WhereAccepted result (λ n. TracksStay (book es).entries (begin track position))) }
     {
-        self.recorder.begin(track, position)
+        self.begin_recorder(track, position)
     }
 
     // Records the elements into the take as one block; the answer is the take's length with them.
@@ -103,6 +103,7 @@ impl<D: CuttableDevice> Sitting<D> {
         ensures does { Ends D.Device.layer self.old.recorder.state (D.Device.meaning self.old.recorder.device) take result self.new.recorder.state (D.Device.meaning self.new.recorder.device) }
         ensures on { Leads D.Device.meaning D.Device.layer (End take) result self.old.recorder self.new.recorder }
         ensures named { Names D.Device.pile (place_of self.old.recorder.state) result }
+        ensures tracks_stay { InSittings D.Device.meaning D.Device.layer self.old.recorder (λ hd es. WhereAccepted result (λ n. TracksStay (book es).entries (trailer take))) }
     {
         self.end_recorder(take)
     }
