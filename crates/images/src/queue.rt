@@ -14,13 +14,13 @@ pub struct WaitingWrite {
     pub content: [u8; 512],
 }
 
-// The waiting writes, oldest first. Room for 16 is reserved, and no more than 16 wait.
+// The waiting writes, oldest first. Room for exactly 16 is reserved, and no more than 16 wait.
 // Its facts are ghost fields and no Model, in which the images' law, that contents are whole, could not see `full`;
 // and `full` stands here and not in WaitingWrite, where each clause that makes a write would carry a proof of it.
 #[derive(Drop)]
 pub struct Queue {
     writes: VecDeque<WaitingWrite>,
-    ghost room: { 16 ≤ deque_capacity writes },
+    ghost room: { deque_capacity writes ≡ 16 },
     ghost few: { length writes.items ≤ 16 },
     ghost full: { all_full writes.items ≡ true },
 }
