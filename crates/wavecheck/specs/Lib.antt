@@ -1,2 +1,4 @@
 pub mod Findings
+pub mod Reports
 pub mod Tallies
+pub mod Text

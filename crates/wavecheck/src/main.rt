@@ -1,19 +1,29 @@
 // Says of each file named whether it is a sound that an export writes, and what it holds.
 #![tactic(auto)]
 
-ghost use Rattle.std.specs.Prelude.{◌≡◌};
+ghost use Rattle.std.specs.Prelude.{◌≡◌, ◌++◌, ℕ, List, Option, Some, None, IfOk, IfSome, OnOk, drop, string_bytes};
+ghost use Rattle.std.specs.Io.KnownBytes.{Appends};
 ghost use Rattle.wavecheck.specs.declared.Problem.TheVariants.{Refused, Unreadable};
-ghost use Rattle.wavecheck.specs.Findings.{Judged};
+ghost use Rattle.wavecheck.specs.Findings.{Judged, Found, beginning};
 ghost use Rattle.wavecheck.specs.Tallies.{counted};
+ghost use Rattle.wavecheck.specs.Text.{noun_of, sound_text, tally_text, Told, Closing};
+ghost use Rattle.wavecheck.specs.Reports.{Reported};
 
+use std::alloc::{AllocError, Global};
 use std::fs::File;
-use std::io::Read;
+use std::io::{Read, Write};
 use std::{env, fmt, io};
-use thiserror::Error;
 use wave::{LONGEST_FILE, Refusal};
 
 // The longest file that can be a sound, and one byte more, by which a longer file shows.
 const ROOM: u64 = LONGEST_FILE as u64 + 1;
+
+// The noun for so many things.
+fn noun<'a>(count: u64, one: &'a str, many: &'a str) -> &'a str
+    ensures { result.now ≡ noun_of count one.now many.now }
+{
+    if count == 1 { one } else { many }
+}
 
 // What a file holds whose bytes are a sound that an export writes.
 #[derive(Clone, Copy)]
@@ -25,6 +35,8 @@ struct Sound {
 }
 
 impl fmt::Display for Sound {
+    ghost output = { λ sound. Some (sound_text sound) };
+
     fn fmt<W: fmt::Write>(&self, f: &mut fmt::Formatter<W>) -> fmt::Result {
         let Sound {
             rate,
@@ -32,7 +44,7 @@ impl fmt::Display for Sound {
             milliseconds,
             peak,
         } = *self;
-        let noun = if count == 1 { "sample" } else { "samples" };
+        let noun = noun(count as u64, "sample", "samples");
         let seconds = milliseconds / 1000;
         let thousandths = milliseconds % 1000;
         write!(
@@ -43,16 +55,14 @@ impl fmt::Display for Sound {
 }
 
 // Why there is no sound to tell of.
-#[derive(Debug, Drop, Error)]
+#[derive(Drop)]
 enum Problem {
-    #[error("refused with {}", u8::from(*.0))]
+    // the file was read, and is no sound that an export writes
     Refused(Refusal),
-    #[error("cannot be read: {0}")]
+    // the file was not read
     Unreadable(io::Error),
 }
 
-// A file that was read and refused.
-// By hand, and so is the next: the impl that `#[from]` writes promises nothing of its value.
 impl From<Refusal> for Problem {
     ghost from_gives = { λ refusal problem. problem ≡ Refused refusal };
 
@@ -61,7 +71,6 @@ impl From<Refusal> for Problem {
     }
 }
 
-// A file that was not read.
 impl From<io::Error> for Problem {
     ghost from_gives = { λ error problem. problem ≡ Unreadable error };
 
@@ -94,6 +103,8 @@ impl Tally {
 }
 
 impl fmt::Display for Tally {
+    ghost output = { λ tally. Some (tally_text tally) };
+
     fn fmt<W: fmt::Write>(&self, f: &mut fmt::Formatter<W>) -> fmt::Result {
         let Tally {
             files,
@@ -101,7 +112,7 @@ impl fmt::Display for Tally {
             refused,
             unreadable,
         } = *self;
-        let noun = if files == 1 { "file" } else { "files" };
+        let noun = noun(files, "file", "files");
         write!(
             f,
             "{files} {noun}: {accepted} accepted, {refused} refused, {unreadable} unreadable"
@@ -122,47 +133,112 @@ fn judge(file: &[u8]) -> Result<Sound, Refusal>
     })
 }
 
-// The bytes of a file; of one that is too long to be a sound, only so many that this shows.
-fn load(rt: &HostRuntime, name: &str) -> io::Result<Vec<u8>> {
-    let file = File::open(rt, name)?;
-    let about = file.metadata()?;
-    let room = if about.is_file() {
-        about.len().min(ROOM)
-    } else {
-        ROOM
-    };
-    let mut bytes = Vec::with_capacity(rt.alloc(), room as usize)?;
+// Where files are found by their names.
+trait Shelf {
+    // the bytes of the file of a name, where they are known
+    ghost file: { Self → List ℕ → Option (List ℕ) } = { λ _ _. None };
+
+    // The bytes of a file; of one that is too long to be a sound, only so many that this shows.
+    fn load(&self, name: &str) -> io::Result<Vec<u8>>
+        ensures { IfOk result (λ bytes. IfSome (file self.now name.now)
+            (λ whole. bytes.items ≡ beginning whole)) };
+}
+
+impl Shelf for HostRuntime {
+    fn load(&self, name: &str) -> io::Result<Vec<u8>> {
+        let file = File::open(self, name)?;
+        let about = file.metadata()?;
+        let room = if about.is_file() {
+            about.len().min(ROOM)
+        } else {
+            ROOM
+        };
+        let bytes = Vec::with_capacity(self.alloc(), room as usize)?;
+        read_beginning(file, bytes)
+    }
+}
+
+// Reads the first bytes of a file, behind those that are there.
+fn read_beginning<R: Read + Drop>(file: R, mut bytes: Vec<u8>) -> io::Result<Vec<u8>>
+    ensures { IfOk result (λ read. IfSome (R.remaining file)
+        (λ whole. read.items ≡ bytes.items ++ beginning whole)) }
+{
     file.take(ROOM).read_to_end(&mut bytes)?;
     Ok(bytes)
 }
 
 // What a named file turns out to be.
-fn examine(rt: &HostRuntime, name: &str) -> Result<Sound, Problem> {
-    let bytes = load(rt, name)?;
-    Ok(judge(&bytes)?)
+#[tactic(auto, using(crate::proofs::Beginnings::judged_whole))]
+fn examine<S: Shelf>(shelf: &S, name: &str) -> Result<Sound, Problem>
+    ensures { IfSome (S.file shelf.now name.now) (λ whole. Found whole result) }
+{
+    let bytes = shelf.load(name)?;
+    let sound = judge(&bytes)?;
+    Ok(sound)
 }
 
-// A line for each file, and a line that counts them.
-fn report(rt: &HostRuntime, names: env::Args) -> io::Result<()> {
-    let mut tally = Tally::default();
-    for name in names.skip(1) {
-        let finding = examine(rt, name.as_str());
-        match &finding {
-            Ok(sound) => println!(rt; "{name}: {sound}")?,
-            Err(problem) => println!(rt; "{name}: {problem}")?,
+// What is told of a file.
+fn tell(alloc: Global, finding: &Result<Sound, Problem>) -> Result<String, AllocError>
+    ensures { IfOk result (λ text. Told finding.now (string_bytes text)) }
+{
+    match finding {
+        Ok(sound) => format!(in alloc; "{sound}"),
+        Err(Problem::Refused(why)) => format!(in alloc; "refused with {}", u8::from(*why)),
+        Err(Problem::Unreadable(why)) => {
+            let reason = format!(in alloc; "{why}")?;
+            format!(in alloc; "cannot be read: {reason}")
         }
+    }
+}
+
+// The last line: what was counted, or where no file was named, how the program is used.
+fn last_line(alloc: Global, tally: &Tally) -> Result<String, AllocError>
+    ensures { IfOk result (λ text. Closing tally.now (string_bytes text)) }
+{
+    if tally.files == 0 {
+        format!(in alloc; "usage: wavecheck FILE..")
+    } else {
+        format!(in alloc; "{tally}")
+    }
+}
+
+// The names of the files; the first name is the program's own.
+fn files_of(names: &[String]) -> &[String]
+    ensures { result.now ≡ drop 1 names.now }
+{
+    if names.is_empty() { names } else { &names[1..] }
+}
+
+// A line for each file, and a last line.
+fn report<S: Shelf, W: Write>(
+    alloc: Global,
+    shelf: &S,
+    names: &[String],
+    out: &mut W,
+) -> io::Result<()>
+    ensures { OnOk result ((text : List ℕ)
+        × Reported (S.file shelf.now) (drop 1 names.now) text
+        × Appends (W.contents out.old) (W.contents out.new) text) }
+{
+    let files = files_of(names);
+    let mut tally = Tally::default();
+    for name in files {
+        let finding = examine(shelf, name.as_str());
+        let text = tell(alloc, &finding)?;
+        writeln!(out, "{name}: {text}")?;
         tally.add(&finding);
     }
-    if tally.files == 0 {
-        println!(rt; "usage: wavecheck FILE..")
-    } else {
-        println!(rt; "{tally}")
-    }
+    let last = last_line(alloc, &tally)?;
+    writeln!(out, "{last}")
 }
 
 fn main(rt: HostRuntime) -> io::Result<()> {
     match env::args(&rt) {
-        Ok(names) => report(&rt, names),
+        Ok(names) => {
+            let names: Vec<String> = names.collect(rt.alloc())?;
+            let mut out = io::LineWriter::new(rt.alloc(), rt.stdout())?;
+            report(rt.alloc(), &rt, &names, &mut out)
+        }
         Err(error) => println!(rt; "the names of the files cannot be read: {error}"),
     }
 }

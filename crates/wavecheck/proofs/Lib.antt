@@ -1,0 +1,3 @@
+pub mod Beginnings
+pub mod Runs
+pub mod Texts
