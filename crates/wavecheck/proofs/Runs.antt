@@ -6,10 +6,11 @@ use Rattle.std.specs.Prelude.{Option, Some, None, Result, Ok, Err, IfSome, OnOk,
 use Rattle.std.specs.List.{FoldsTo}
 use Rattle.std.specs.Io.KnownBytes.{Appends}
 use Rattle.std.specs.declared.alloc.Global.{Global}
+use Rattle.std.specs.declared.io.Error.{Error}
 use Rattle.wavecheck.specs.declared.Sound.{Sound}
 use Rattle.wavecheck.specs.declared.Problem.{Problem}
 use Rattle.wavecheck.specs.declared.Tally.{Tally}
-use Rattle.wavecheck.specs.Findings.{Found}
+use Rattle.wavecheck.specs.Findings.{Found, IfUnread}
 use Rattle.wavecheck.specs.Tallies.{counted}
 use Rattle.wavecheck.specs.Text.{Told, Closing}
 use Rattle.wavecheck.specs.Reports.{Run, Goes, begun, Reported}
@@ -31,28 +32,29 @@ after run name finding told = record {
   text = run.text ++ string_bytes name ++ codes ": " ++ told ++ 10 ∷ [];
 }
 
-module _ (file : List ℕ → Option (List ℕ)) (files : List (String Global)) (i : ℕ) (start out out' : Option (List ℕ)) where
+module _ (file : List ℕ → Option (List ℕ)) (fails : List ℕ → Error → Type 0) (files : List (String Global)) (i : ℕ) (start out out' : Option (List ℕ)) where
   -- one file more
   pub one_more : (run : Run) (name : String Global) (tally tally' : Tally) (finding : Result Sound Problem) (asked told : List ℕ)
       → i < length files → name ≡ get_or files i name → asked ≡ string_bytes name
-      → FoldsTo (Goes file) begun (take i files) run → tally ≡ run.tally → Appends start out run.text
-      → IfSome (file asked) (λ whole. Found whole finding) → Told finding told
+      → FoldsTo (Goes file fails) begun (take i files) run → tally ≡ run.tally → Appends start out run.text
+      → IfSome (file asked) (λ whole. Found whole finding) → IfUnread finding (fails asked) → Told finding told
       → Appends out out' (string_bytes name ++ (codes ": " ++ (told ++ 10 ∷ []))) → tally' ≡ counted finding tally
-      → (x : Run) × FoldsTo (Goes file) begun (take (i + 1) files) x × (tally' ≡ x.tally) × Appends start out' x.text
-  one_more run name tally tally' finding asked told lt is named so_far same written found tells wrote adds =
+      → (x : Run) × FoldsTo (Goes file fails) begun (take (i + 1) files) x × (tally' ≡ x.tally) × Appends start out' x.text
+  one_more run name tally tally' finding asked told lt is named so_far same written found unread tells wrote adds =
       let next : Run = after run name finding told in
       let names : take (i + 1) files ≡ take i files ++ name ∷ [] =
       take_more files i name lt ∙ ap (λ x. take i files ++ x ∷ []) (sym is) in
-      let goes : Goes file run name next = record {
+      let goes : Goes file fails run name next = record {
         finding = finding;
         told = told;
         right = subst (λ a. IfSome (file a) (λ whole. Found whole finding)) named found;
+        unread = subst (λ a. IfUnread finding (fails a)) named unread;
         tells = tells;
         counts = refl;
         prints = refl;
       } in (
         next,
-        subst (λ xs. FoldsTo (Goes file) begun xs next) (sym names) (FoldsTo-push (Goes file) begun (take i files) run name next so_far goes),
+        subst (λ xs. FoldsTo (Goes file fails) begun xs next) (sym names) (FoldsTo-push (Goes file fails) begun (take i files) run name next so_far goes),
         adds ∙ ap (counted finding) same,
         subst (Appends start out') (regrouped run.text (string_bytes name) (codes ": ") told (10 ∷ []))
             (appends_more start out out' run.text (string_bytes name ++ (codes ": " ++ (told ++ 10 ∷ []))) written wrote),
@@ -60,13 +62,13 @@ module _ (file : List ℕ → Option (List ℕ)) (files : List (String Global)) 
 
   -- the last line
   pub at_last : {T E : Type 0} (r : Result T E) (names : List (String Global)) (run : Run) (tally : Tally) (last : List ℕ)
-      → files ≡ drop 1 names → length files ≤ i → FoldsTo (Goes file) begun (take i files) run → tally ≡ run.tally → Appends start out run.text
+      → files ≡ drop 1 names → length files ≤ i → FoldsTo (Goes file fails) begun (take i files) run → tally ≡ run.tally → Appends start out run.text
       → Closing tally last → OnOk r (Appends out out' (last ++ 10 ∷ []))
-      → OnOk r ((text : List ℕ) × Reported file (drop 1 names) text × Appends start out' text)
+      → OnOk r ((text : List ℕ) × Reported file fails (drop 1 names) text × Appends start out' text)
   at_last (Err e) names run tally last are le so_far same written closes wrote = tt
   at_last (Ok v) names run tally last are le so_far same written closes wrote = (
     run.text ++ last ++ 10 ∷ [],
-    (run, last, subst (λ xs. FoldsTo (Goes file) begun xs run) (take_all i files le ∙ are) so_far, subst (λ t. Closing t last) same closes, refl),
+    (run, last, subst (λ xs. FoldsTo (Goes file fails) begun xs run) (take_all i files le ∙ are) so_far, subst (λ t. Closing t last) same closes, refl),
     subst (Appends start out') (sym (append_assoc run.text last (10 ∷ [])))
         (appends_more start out out' run.text (last ++ 10 ∷ []) written wrote),
   )

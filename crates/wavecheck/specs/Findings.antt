@@ -1,5 +1,6 @@
 -- What is found of a file's bytes.
 use Rattle.std.specs.Prelude.{◌≡◌, ℕ, List, Ok, Err, Result, ⊤, take}
+use Rattle.std.specs.declared.io.Error.{Error}
 use Rattle.wave.specs.declared.Refusal.{Refusal}
 use Rattle.wave.specs.declared.Refusal.TheVariants.{NotWave}
 use Rattle.wave.specs.Export.{Exported, sample_count, duration, Peak}
@@ -22,3 +23,9 @@ abbrev pub Found : List ℕ → Result Sound Problem → Type 0
 Found file (Ok sound) = Judged file (Ok sound)
 Found file (Err (Refused refusal)) = Judged file (Err refusal)
 Found file (Err (Unreadable error)) = ⊤
+
+-- P holds of the error by which a file could not be read
+abbrev pub IfUnread : Result Sound Problem → (Error → Type 0) → Type 0
+IfUnread (Ok sound) P = ⊤
+IfUnread (Err (Refused refusal)) P = ⊤
+IfUnread (Err (Unreadable error)) P = P error

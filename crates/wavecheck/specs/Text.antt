@@ -1,5 +1,5 @@
 -- How what is found is printed.
-use Rattle.std.specs.Prelude.{◌≡◌, ◌≢◌, ℕ, ◌-◌, ◌/◌, ◌%◌, List, ◌++◌, length, codes, replicate, if◌then◌else◌, ◌==◌, Ok, Err, Result}
+use Rattle.std.specs.Prelude.{◌≡◌, ◌≢◌, ℕ, ◌-◌, ◌/◌, ◌%◌, List, [], ◌∷◌, ◌++◌, length, codes, replicate, if◌then◌else◌, ◌==◌, Ok, Err, Result}
 use Rattle.std.specs.Fmt.{decimal}
 use Rattle.wave.specs.Reading.{refusal_number}
 use Rattle.wavecheck.specs.declared.Sound.{Sound}
@@ -15,12 +15,18 @@ noun_of n one many = if n == 1 then one else many
 abbrev pub three_digits : ℕ → List ℕ
 three_digits n = replicate (3 - length (decimal n)) 48 ++ decimal n
 
+-- pieces, one behind the other
+abbrev pub joined : List (List ℕ) → List ℕ
+joined [] = []
+joined (x ∷ []) = x
+joined (x ∷ y ∷ xs) = x ++ joined (y ∷ xs)
+
 -- a sound: rate, number of samples, seconds with three decimals, peak
 abbrev pub sound_text : Sound → List ℕ
-sound_text sound = decimal sound.rate ++ codes " Hz, "
-    ++ decimal sound.count ++ codes " " ++ noun_of sound.count (codes "sample") (codes "samples") ++ codes ", "
-    ++ decimal (sound.milliseconds / 1000) ++ codes "." ++ three_digits (sound.milliseconds % 1000) ++ codes " s, peak "
-    ++ decimal sound.peak
+sound_text sound = joined (decimal sound.rate ∷ codes " Hz, "
+    ∷ decimal sound.count ∷ codes " " ∷ noun_of sound.count (codes "sample") (codes "samples") ∷ codes ", "
+    ∷ decimal (sound.milliseconds / 1000) ∷ codes "." ∷ three_digits (sound.milliseconds % 1000) ∷ codes " s, peak "
+    ∷ decimal sound.peak ∷ [])
 
 -- what is told of a file; the reason why one was not read is the system's own text
 abbrev pub Told : Result Sound Problem → List ℕ → Type 0
@@ -30,9 +36,9 @@ Told (Err (Unreadable error)) text = (reason : List ℕ) × (text ≡ codes "can
 
 -- how many files there were, and how many of each kind
 abbrev pub tally_text : Tally → List ℕ
-tally_text tally = decimal tally.files ++ codes " " ++ noun_of tally.files (codes "file") (codes "files") ++ codes ": "
-    ++ decimal tally.accepted ++ codes " accepted, " ++ decimal tally.refused ++ codes " refused, "
-    ++ decimal tally.unreadable ++ codes " unreadable"
+tally_text tally = joined (decimal tally.files ∷ codes " " ∷ noun_of tally.files (codes "file") (codes "files") ∷ codes ": "
+    ∷ decimal tally.accepted ∷ codes " accepted, " ∷ decimal tally.refused ∷ codes " refused, "
+    ∷ decimal tally.unreadable ∷ codes " unreadable" ∷ [])
 
 -- the last line: the counts, or where no file was named, how the program is used
 pub record Closing (tally : Tally) (text : List ℕ) : Type 0 where

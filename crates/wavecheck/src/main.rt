@@ -1,10 +1,11 @@
 // Says of each file named whether it is a sound that an export writes, and what it holds.
 #![tactic(auto)]
 
-ghost use Rattle.std.specs.Prelude.{◌≡◌, ◌++◌, ℕ, List, Option, Some, None, IfOk, IfSome, OnOk, drop, string_bytes};
+ghost use Rattle.std.specs.Prelude.{◌≡◌, ◌++◌, ℕ, List, Option, Some, None, ⊤, IfOk, IfErr, IfSome, OnOk, drop, string_bytes};
+ghost use Rattle.std.specs.declared.io.Error.{Error};
 ghost use Rattle.std.specs.Io.KnownBytes.{Appends};
 ghost use Rattle.wavecheck.specs.declared.Problem.TheVariants.{Refused, Unreadable};
-ghost use Rattle.wavecheck.specs.Findings.{Judged, Found, beginning};
+ghost use Rattle.wavecheck.specs.Findings.{Judged, Found, IfUnread, beginning};
 ghost use Rattle.wavecheck.specs.Tallies.{counted};
 ghost use Rattle.wavecheck.specs.Text.{noun_of, sound_text, tally_text, Told, Closing};
 ghost use Rattle.wavecheck.specs.Reports.{Reported};
@@ -37,6 +38,7 @@ struct Sound {
 impl fmt::Display for Sound {
     ghost output = { λ sound. Some (sound_text sound) };
 
+    #[tactic(auto, using(crate::proofs::Texts::three_padded))]
     fn fmt<W: fmt::Write>(&self, f: &mut fmt::Formatter<W>) -> fmt::Result {
         let Sound {
             rate,
@@ -138,9 +140,13 @@ trait Shelf {
     // the bytes of the file of a name, where they are known
     ghost file: { Self → List ℕ → Option (List ℕ) } = { λ _ _. None };
 
+    // the errors by which the file of a name may not be read
+    ghost fails: { Self → List ℕ → Error → Type 0 } = { λ _ _ _. ⊤ };
+
     // The bytes of a file; of one that is too long to be a sound, only so many that this shows.
     fn load(&self, name: &str) -> io::Result<Vec<u8>>
-        ensures { IfOk result (λ bytes. IfSome (file self.now name.now)
+        ensures err { IfErr result (λ error. fails self.now name.now error) }
+        ensures ok { IfOk result (λ bytes. IfSome (file self.now name.now)
             (λ whole. bytes.items ≡ beginning whole)) };
 }
 
@@ -170,7 +176,8 @@ fn read_beginning<R: Read + Drop>(file: R, mut bytes: Vec<u8>) -> io::Result<Vec
 // What a named file turns out to be.
 #[tactic(auto, using(crate::proofs::Beginnings::judged_whole))]
 fn examine<S: Shelf>(shelf: &S, name: &str) -> Result<Sound, Problem>
-    ensures { IfSome (S.file shelf.now name.now) (λ whole. Found whole result) }
+    ensures found { IfSome (S.file shelf.now name.now) (λ whole. Found whole result) }
+    ensures unread { IfUnread result (S.fails shelf.now name.now) }
 {
     let bytes = shelf.load(name)?;
     let sound = judge(&bytes)?;
@@ -217,7 +224,7 @@ fn report<S: Shelf, W: Write>(
     out: &mut W,
 ) -> io::Result<()>
     ensures { OnOk result ((text : List ℕ)
-        × Reported (S.file shelf.now) (drop 1 names.now) text
+        × Reported (S.file shelf.now) (S.fails shelf.now) (drop 1 names.now) text
         × Appends (W.contents out.old) (W.contents out.new) text) }
 {
     let files = files_of(names);
