@@ -1,5 +1,6 @@
 // The sitting that a script works, and its commands.
-ghost use Rattle.std.specs.Prelude.{◌≡◌, map, take, IfOk};
+ghost use Rattle.std.specs.Prelude.{◌≡◌, ℕ, List, [], ◌∷◌, ◌++◌, None, Some, map, take, IfSome, IfOk, OnOk, MatchOption};
+ghost use Rattle.std.specs.Io.KnownBytes.{Appends};
 ghost use Rattle.std.specs.Result.{result_map_both};
 ghost use Rattle.element.specs.Kinds.{kind_number};
 ghost use Rattle.layers.specs.Fused.{unset, fuse_layer, fuse_meaning};
@@ -9,8 +10,12 @@ ghost use Rattle.recorder.specs.declared.State.TheVariants.{Unmounted};
 ghost use Rattle.recorder.specs.Panel.{kind_on};
 ghost use Rattle.recorder.specs.Plays.{Plays};
 ghost use Rattle.desk.specs.Desks.{Does, Meant, Played, PowerCut, TrackPlayed};
+ghost use Rattle.desk.specs.Lines.{first_line, lines, rest};
+ghost use Rattle.desk.specs.Scripts.{Answered, NextAnswered};
+ghost use Rattle.desk.specs.Text.{text};
 
 use crate::answer::Answer;
+use crate::lines::next_line;
 use device::CuttableDevice;
 use element::{Element, Kind, Mark};
 use layers::Fuse;
@@ -18,6 +23,8 @@ use recorder::Failed;
 use script::Command;
 use sitting::Sitting;
 use std::alloc::{AllocError, Global};
+use std::io;
+use std::io::{BufRead, ErrorKind, Write};
 
 // How many elements of a track are played at most.
 const MOST_PLAYED: usize = 512;
@@ -43,6 +50,47 @@ impl<D: CuttableDevice + Drop> Desk<D> {
         Desk {
             sitting: Sitting::new(Fuse::new(device)),
         }
+    }
+
+    // Answers each line of the input by a line of the output, which is written before the next line is read.
+    pub fn answer_all<R: BufRead, W: Write>(
+        self,
+        alloc: Global,
+        input: &mut R,
+        output: &mut W,
+    ) -> io::Result<()>
+        ensures { OnOk result (IfSome (R.Read.remaining input.old) (λ text. (written : List ℕ)
+            × Answered (λ d line answer d'. Meant D.Device.meaning D.CuttableDevice.images D.CuttableDevice.below d (meaning line) answer d') self.sitting.recorder (lines text) written
+            × Appends (W.contents output.old) (W.contents output.new) written)) }
+    {
+        let mut desk = self;
+        for _ in 0..u64::MAX {
+            match desk.answer_next(alloc, input, output)? {
+                Some(next) => desk = next,
+                None => return Ok(()),
+            }
+        }
+        Err(ErrorKind::Other.into())
+    }
+
+    // Answers the next line of the input, if there is one.
+    fn answer_next<R: BufRead, W: Write>(
+        self,
+        alloc: Global,
+        input: &mut R,
+        output: &mut W,
+    ) -> io::Result<Option<Desk<D>>>
+        ensures answered { IfOk result (λ next. MatchOption next
+            (IfSome (R.Read.remaining input.old) (λ left. None ≡ first_line left) × (W.contents output.new ≡ W.contents output.old))
+            (λ desk. NextAnswered (λ d line answer d'. Meant D.Device.meaning D.CuttableDevice.images D.CuttableDevice.below d (meaning line) answer d') self.sitting.recorder (R.Read.remaining input.old) desk.sitting.recorder (W.contents output.old) (W.contents output.new))) }
+        ensures rest { OnOk result (IfSome (R.Read.remaining input.old) (λ left. R.Read.remaining input.new ≡ Some (rest left))) }
+    {
+        let Some(line) = next_line(alloc, input)? else {
+            return Ok(None);
+        };
+        let (desk, answer) = self.answer(alloc, &line)?;
+        tell(alloc, answer, output)?;
+        Ok(Some(desk))
     }
 
     // Does what the line means, if it means anything. The desk is handed back, since after a cut it has another recorder.
@@ -125,6 +173,14 @@ impl<D: CuttableDevice + Drop> Desk<D> {
             Err(failed) => Ok(Err(failed)),
         }
     }
+}
+
+// Writes an answer as a line of its own.
+fn tell<W: Write>(alloc: Global, answer: Answer, output: &mut W) -> io::Result<()>
+    ensures { OnOk result (Appends (W.contents output.old) (W.contents output.new) (text answer ++ 10 ∷ [])) }
+{
+    let line = format!(in alloc; "{answer}\n")?;
+    output.write_all(line.as_bytes())
 }
 
 // The first elements of a slice.

@@ -1,7 +1,7 @@
 // Runs a sitting from a script: a line of the input gives a line of the output.
 #![tactic(auto)]
 
-use desk::{Desk, next_line};
+use desk::Desk;
 use images::QueuedImage;
 use layers::Mirror;
 use std::io;
@@ -13,18 +13,10 @@ const IMAGE_BYTES: usize = 32 * 512;
 fn main(rt: HostRuntime) -> io::Result<()> {
     let mut first = vec![in rt.alloc(); 0u8; IMAGE_BYTES]?;
     let mut second = vec![in rt.alloc(); 0u8; IMAGE_BYTES]?;
-    let mut desk = Desk::new(Mirror::new(
+    let desk = Desk::new(Mirror::new(
         QueuedImage::new(rt.alloc(), first.as_mut_slice(), [None; 4])?,
         QueuedImage::new(rt.alloc(), second.as_mut_slice(), [None; 4])?,
     ));
     let mut input = BufReader::new(rt.alloc(), rt.reader())?;
-    for _ in 0..u64::MAX {
-        let Some(line) = next_line(rt.alloc(), &mut input)? else {
-            break;
-        };
-        let answer;
-        (desk, answer) = desk.answer(rt.alloc(), &line)?;
-        println!(rt; "{answer}")?;
-    }
-    Ok(())
+    desk.answer_all(rt.alloc(), &mut input, &mut io::writer(&rt))
 }

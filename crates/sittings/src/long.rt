@@ -137,4 +137,22 @@ mod tests {
         assert_eq!(rt; lengths.as_slice(), [0, 6, 0, 2049, 4].as_slice());
         Ok(())
     }
+
+    // A line too long to be kept whole is one line, an empty one is bad, and the last one has no line feed.
+    #[test]
+    fn a_script(rt: HostRuntime) -> Result<(), Fail> {
+        let mut first = vec![in rt.alloc(); 0u8; 16384]?;
+        let mut second = vec![in rt.alloc(); 0u8; 16384]?;
+        let desk = Desk::new(Mirror::new(
+            QueuedImage::new(rt.alloc(), first.as_mut_slice(), [None; 4])?,
+            QueuedImage::new(rt.alloc(), second.as_mut_slice(), [None; 4])?,
+        ));
+        let script = repeated(rt.alloc(), "format s 8000 1\nmount\n\ncut", " 255", 600)?;
+        let script = format!(in rt.alloc(); "{script}\nmount\nplay 1\nbegin 1\narm")?;
+        let mut output = Vec::new(rt.alloc());
+        desk.answer_all(rt.alloc(), &mut script.as_bytes(), &mut output)?;
+        let wanted = "ok 32\nok 0\nbad\nbad\nno 2\nok 0\nbad\nok 2\n";
+        assert!(rt; output.as_slice() == wanted.as_bytes());
+        Ok(())
+    }
 }
