@@ -6,19 +6,23 @@ ghost use Rattle.device.specs.Faults.{cause_number, layer_number, fault_numbers,
 #[derive(Clone, Copy, PartialEq, Eq, Debug)]
 pub enum Cause {
     // there is no such sector
-    OutOfRange = 1,
+    OutOfRange,
     // the sector can be neither read nor written
-    Sick = 2,
+    Sick,
     // the device has no power
-    PowerLost = 3,
+    PowerLost,
 }
 
-// The number that stands for the cause.
+// The number that stands for the cause. It stands here and not in the enum, whose own numbers, which a cast gives, begin at 0.
 impl From<Cause> for u32 {
     ghost from_gives = { λ cause number. number ≡ cause_number cause };
 
     fn from(cause: Cause) -> u32 {
-        cause as u32
+        match cause {
+            Cause::OutOfRange => 1,
+            Cause::Sick => 2,
+            Cause::PowerLost => 3,
+        }
     }
 }
 

@@ -25,15 +25,17 @@ pub const LONGEST_FILE: usize = 44 + 2 * MOST_SAMPLES;
 pub enum Refusal {
     // it is not what an export writes
     #[error("not a sound that an export writes")]
-    NotWave = 21,
+    NotWave,
 }
 
-// The number that stands for a refusal.
+// The number that stands for a refusal. It stands here and not in the enum, whose own number, which a cast gives, is 0.
 impl From<Refusal> for u8 {
     ghost from_gives = { λ refusal number. number ≡ refusal_number refusal };
 
     fn from(refusal: Refusal) -> u8 {
-        refusal as u8
+        match refusal {
+            Refusal::NotWave => 21,
+        }
     }
 }
 
