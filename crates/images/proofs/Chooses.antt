@@ -1,8 +1,9 @@
 -- What a cut leaves of a queued image.
-use Rattle.std.proofs.Common.{◌≡◌, ℕ, suc, ◌+◌, Bool, true, false, cond, eqb, ltb, List, [], ◌∷◌, length, get_or, replicate, Some, None, Option, slice_get, unwrap_or, Bor, sym, refl, ap, ◌∙◌, arith, eqb-true, Ok, ⊎_elim}
+use Rattle.std.proofs.Common.{◌≡◌, ℕ, suc, ◌+◌, Bool, true, false, cond, eqb, ltb, ◌||◌, List, [], ◌∷◌, length, get_or, replicate, Some, None, Option, slice_get, unwrap_or, Bor, sym, refl, ap, ◌∙◌, arith, eqb-true, Ok, ⊎_elim}
 use Rattle.std.proofs.lemmas.Bool.{cases_Bool}
 use mathlib.Core.Path.{fun_ext}
 use Rattle.std.specs.Option.{option_copied}
+use Rattle.std.specs.List.{list_any}
 use Rattle.std.proofs.lemmas.Grind.{common_steps}
 use Rattle.device.specs.declared.fault.Fault.{Fault}
 use Rattle.device.specs.Faults.{sick_at}
@@ -12,7 +13,8 @@ use Rattle.device.specs.Cuts.{chosen, cut_by}
 use Rattle.images.specs.declared.queue.WaitingWrite.{WaitingWrite}
 use Rattle.images.specs.Sectors.{whole, content, is_sick}
 use Rattle.images.specs.Image.{waiting_for, older, listed, sector_of, image_meaning}
-use Rattle.images.specs.Queue.{left_of, left_at}
+use Rattle.images.specs.Queue.{left_of, left_at, cut_content}
+use Rattle.images.proofs.Waits.{none_waits}
 use Rattle.images.specs.Lawful.{listed_well}
 use Rattle.images.proofs.Contents.{whole_same}
 
@@ -69,3 +71,45 @@ same_left f s b h t =
 pub left_more : (left old now next : ℕ → List ℕ) (s : ℕ) → ((t : ℕ) → now t ≡ cond (ltb t s) (left t) (old t)) → ((t : ℕ) → next t ≡ cond (eqb t s) (left s) (now t))
     → (t : ℕ) → next t ≡ cond (ltb t (s + 1)) (left t) (old t)
 left_more left old now next s h k t = grind (arith, common_steps, h t, k t)
+
+-- one more write is gone over: its sector is as the plan says
+pub left_next : (left old now next : ℕ → List ℕ) (done more : ℕ → Bool) (s : ℕ) → ((t : ℕ) → more t ≡ (done t || eqb t s))
+    → ((t : ℕ) → now t ≡ cond (done t) (left t) (old t)) → ((t : ℕ) → next t ≡ cond (eqb t s) (left s) (now t))
+    → (t : ℕ) → next t ≡ cond (more t) (left t) (old t)
+left_next left old now next done more s m h k t = grind (arith, common_steps, m t, h t, k t)
+
+-- a sector that the plan leaves as it is, be it done or not
+left_alone : (done : Bool) (left old now : List ℕ) → now ≡ cond done left old → left ≡ old → now ≡ left
+left_alone true left old now h e = h
+left_alone false left old now h e = h ∙ sym e
+
+-- one more sector is as the plan says where the plan leaves it as it is
+pub left_stays : (left old now : ℕ → List ℕ) (done more : ℕ → Bool) (s : ℕ) → ((t : ℕ) → more t ≡ (done t || eqb t s))
+    → ((t : ℕ) → now t ≡ cond (done t) (left t) (old t)) → left s ≡ old s
+    → (t : ℕ) → now t ≡ cond (more t) (left t) (old t)
+left_stays left old now done more s m h e = left_next left old now now done more s m h (same_left now s (left s) (left_alone (done s) (left s) (old s) (now s) (h s) e))
+
+-- a sector that was gone over already stays as the plan says
+pub left_again : (left old now : ℕ → List ℕ) (done more : ℕ → Bool) (s : ℕ) → ((t : ℕ) → more t ≡ (done t || eqb t s))
+    → ((t : ℕ) → now t ≡ cond (done t) (left t) (old t)) → done s ≡ true
+    → (t : ℕ) → now t ≡ cond (more t) (left t) (old t)
+left_again left old now done more s m h e = left_next left old now now done more s m h (same_left now s (left s) (h s ∙ ap (λ (b : Bool). cond b (left s) (old s)) e))
+
+-- choice 0 leaves the settled content
+pub left_settled : (x : List ℕ) (xs : List (List ℕ)) → left_of 0 x xs ≡ x
+left_settled x [] = refl
+left_settled x (y ∷ ys) = refl
+
+-- inside and outside of the whole sectors alike, a content that the plan leaves as it is
+pub same_cond : (b : Bool) (x y : List ℕ) → y ≡ x → cond b y x ≡ x
+same_cond true x y e = e
+same_cond false x y e = refl
+
+-- once the sectors of all writes are done, every sector is as the plan says
+pub left_all : (plan bytes : List ℕ) (queue : List WaitingWrite) (t : ℕ)
+    → cond (list_any (λ w. eqb t w.sector) queue) (cut_content plan bytes queue t) (content bytes t) ≡ cut_content plan bytes queue t
+left_all plan bytes queue t =
+    ⊎_elim
+    (λ e. rw e refl)
+    (λ e. rw e (sym (same_cond (ltb t (whole bytes)) (content bytes t) (left_at plan bytes queue t) (ap (left_of (get_or plan t 0) (content bytes t)) (none_waits t queue e)))))
+    (cases_Bool (list_any (λ w. eqb t w.sector) queue))

@@ -1,7 +1,9 @@
 -- Lists of waiting writes: one more, one less, and those of one sector.
-use Rattle.std.proofs.Common.{◌≡◌, ℕ, Bool, true, false, cond, eqb, List, [], ◌∷◌, ◌++◌, map, reverse, length, Some, None, sym, refl, ap, ◌∙◌, subst, eqb-true, ⊎_elim}
+use Rattle.std.proofs.Common.{◌≡◌, ℕ, Bool, true, false, cond, eqb, ◌||◌, List, [], ◌∷◌, ◌++◌, map, reverse, length, append-nil, Some, None, sym, refl, ap, ◌∙◌, subst, arith, eqb-true, ⊎_elim}
 use Rattle.std.proofs.lemmas.Bool.{cases_Bool}
 use Rattle.std.specs.Prelude.{filter, slice_get}
+use Rattle.std.specs.List.{list_any}
+use Rattle.std.proofs.lemmas.List.Folds.{list_any-append}
 use Rattle.std.specs.Borrow.{Bor}
 use Rattle.std.specs.VecDeque.Iter.{deque_iter_steps_back, deque_iter_rest}
 use Rattle.std.proofs.lemmas.List.{reverse-append, length-reverse}
@@ -60,3 +62,55 @@ full_first w queue h = eqb-true _ _ ((and-eq-true_iff (eqb (length w.content) 51
 
 pub full_rest : (w : WaitingWrite) (queue : List WaitingWrite) → all_full (w ∷ queue) ≡ true → all_full queue ≡ true
 full_rest w queue h = ((and-eq-true_iff (eqb (length w.content) 512) (all_full queue)).0 h).1
+
+waits_step : (b rest : Bool) (x : List ℕ) (xs : List (List ℕ)) → (b || rest) ≡ false → (rest ≡ false → xs ≡ []) → cond b (x ∷ xs) xs ≡ []
+waits_step true rest x xs h k = absurd (cc)
+waits_step false rest x xs h k = k h
+
+-- where no write is to the sector, nothing waits for it
+pub none_waits : (s : ℕ) (queue : List WaitingWrite) → list_any (λ w. eqb s w.sector) queue ≡ false → waiting_for s queue ≡ []
+none_waits s [] h = refl
+none_waits s (w ∷ queue) h = waits_step (eqb s w.sector) (list_any (λ v. eqb s v.sector) queue) w.content (waiting_for s queue) h (none_waits s queue)
+
+one_step : (b rest : Bool) (x : List ℕ) (xs : List (List ℕ)) → (b || rest) ≡ true → (rest ≡ true → (y : List ℕ) × (slice_get xs 0 ≡ Some y)) → (y : List ℕ) × (slice_get (cond b (x ∷ xs) xs) 0 ≡ Some y)
+one_step true rest x xs h k = (x, refl)
+one_step false rest x xs h k = k h
+
+-- where one is, something waits
+pub one_waits : (s : ℕ) (queue : List WaitingWrite) → list_any (λ w. eqb s w.sector) queue ≡ true → (y : List ℕ) × (slice_get (waiting_for s queue) 0 ≡ Some y)
+one_waits s [] h = absurd (cc)
+one_waits s (w ∷ queue) h = one_step (eqb s w.sector) (list_any (λ v. eqb s v.sector) queue) w.content (waiting_for s queue) h (one_waits s queue)
+
+-- what is true of one of the first writes is true of one of all
+pub any_ahead : (p : WaitingWrite → Bool) (first rest : List WaitingWrite) → list_any p first ≡ true → list_any p (first ++ rest) ≡ true
+any_ahead p first rest h = list_any-append p first rest ∙ ap (λ (b : Bool). b || list_any p rest) h
+
+-- one more write is gone over, and is no longer to come
+pub done_more : (done : List (Bor WaitingWrite)) (w : Bor WaitingWrite) (rest : List WaitingWrite)
+    → map (λ v. v.now) (done ++ (w ∷ [])) ++ rest ≡ map (λ v. v.now) done ++ (w.now ∷ rest)
+done_more [] w rest = refl
+done_more (v ∷ done) w rest = ap (λ (z : List WaitingWrite). v.now ∷ z) (done_more done w rest)
+
+-- and its sector is one of those that are gone over
+pub sector_more : (t : ℕ) (done : List (Bor WaitingWrite)) (w : Bor WaitingWrite)
+    → list_any (λ v. eqb t v.sector) (map (λ v. v.now) (done ++ (w ∷ []))) ≡ (list_any (λ v. eqb t v.sector) (map (λ v. v.now) done) || eqb t w.now.sector)
+sector_more t [] w = last (eqb t w.now.sector)
+  where
+    last : (b : Bool) → (b || false) ≡ b
+    last true = refl
+    last false = refl
+sector_more t (v ∷ done) w = step (eqb t v.now.sector) _ _ _ (sector_more t done w)
+  where
+    step : (b x y e : Bool) → x ≡ (y || e) → (b || x) ≡ ((b || y) || e)
+    step true x y e h = refl
+    step false x y e h = h
+
+-- where no write is to come, all are gone over
+pub done_all : (done rest queue : List WaitingWrite) → done ++ rest ≡ queue → length rest ≡ 0 → done ≡ queue
+done_all done [] queue h e = sym (append-nil done) ∙ h
+done_all done (w ∷ rest) queue h e = absurd (cc)
+
+-- of two tests the second, that a sector is itself, always passes
+pub or_self : (b : Bool) (s : ℕ) → (b || eqb s s) ≡ true
+or_self true s = refl
+or_self false s = grind arith

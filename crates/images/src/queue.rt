@@ -1,11 +1,14 @@
 // The writes that wait in a queued image.
-ghost use Rattle.std.specs.Prelude.{◌≡◌, ℕ, ◌+◌, ◌≤◌, ◌<◌, ◌↔◌, true, List, [], ◌∷◌, ◌++◌, length, IfOk, IfNone, IsTrue, MatchOption, unwrap_or, slice_get};
+ghost use Rattle.std.specs.Prelude.{◌≡◌, ℕ, ◌+◌, ◌≤◌, ◌<◌, ◌↔◌, true, List, [], ◌∷◌, ◌++◌, length, IfOk, IfNone, IsTrue, MatchOption, unwrap_or, slice_get, slice_index_or, replicate, take, ◌==◌, ◌||◌};
+ghost use Rattle.std.specs.List.{list_any};
 ghost use Rattle.std.specs.VecDeque.{deque_capacity};
+ghost use Rattle.std.specs.VecDeque.Iter.{deque_iter_rest};
 ghost use Rattle.std.specs.Option.{option_copied, option_to_list};
 ghost use Rattle.images.specs.Full.{all_full};
 
 use std::alloc::{AllocError, Global};
 use std::collections::VecDeque;
+use std::collections::vec_deque::Iter;
 
 // A write that is accepted and not yet settled.
 #[derive(Clone, Copy)]
@@ -101,6 +104,37 @@ impl Queue {
         // Up to 16 writes are looked through a second time: a search that also counts would be no plainer.
         self.waiting(sector, 0)?;
         Some(self.waiting(sector, place).unwrap_or(&[0; 512]))
+    }
+
+    // The content that waits for the sector at the place, oldest first, or zeros where there are fewer.
+    pub fn chosen(&self, sector: u32, place: usize) -> &[u8; 512]
+        ensures { result.now ≡ slice_index_or (waiting_for sector self.now.writes.items) place (replicate 512 0) }
+    {
+        self.waiting(sector, place).unwrap_or(&[0; 512])
+    }
+
+    // How many writes wait.
+    pub fn len(&self) -> usize
+        ensures { result ≡ length self.now.writes.items }
+    {
+        self.writes.len()
+    }
+
+    // The writes, oldest first.
+    pub fn iter(&self) -> Iter<'_, WaitingWrite>
+        ensures { deque_iter_rest result ≡ self.now.writes.items }
+    {
+        self.writes.iter()
+    }
+
+    // Whether a write before the place waits for the sector.
+    pub fn waits_before(&self, place: usize, sector: u32) -> bool
+        ensures { result ≡ list_any (λ write. sector == write.sector) (take place self.now.writes.items) }
+    {
+        self.writes
+            .iter()
+            .take(place)
+            .any(|write| write.sector == sector)
     }
 }
 

@@ -1,10 +1,10 @@
 // The queued image.
-ghost use Rattle.std.specs.Prelude.{◌≡◌, ◌<◌, [], ◌∷◌, length, refl, IfOk, Ok};
+ghost use Rattle.std.specs.Prelude.{◌≡◌, ℕ, ◌<◌, [], ◌∷◌, length, refl, IfOk, Ok};
 ghost use Rattle.device.specs.Calls.{Reads, Writes, Flushes};
 ghost use Rattle.device.specs.Cuts.{EachCut};
-ghost use Rattle.images.specs.Sectors.{whole, ready};
-ghost use Rattle.images.specs.Queue.{room_queue, room_bytes};
-ghost use Rattle.images.specs.Queued.{queued_number, waiting, queued_meaning, queued_lawful, queued_pile, queued_named, Becomes, QueuedMade, QueuedReads, QueuedWrites, QueuedFlushes, QueuedCuts};
+ghost use Rattle.images.specs.Sectors.{whole, content, ready};
+ghost use Rattle.images.specs.Queue.{room_queue, room_bytes, cut_content};
+ghost use Rattle.images.specs.Queued.{queued_number, waiting, queued_meaning, queued_lawful, queued_pile, queued_named, Stays, Becomes, QueuedMade, QueuedReads, QueuedWrites, QueuedFlushes, QueuedCuts};
 
 use crate::queue::Queue;
 use crate::sectors::Sectors;
@@ -65,10 +65,11 @@ impl<'a> QueuedImage<'a> {
         }
     }
 
-    // Leaves of every sector what the plan says, and lets go of the waiting writes.
-    fn leave_chosen(&mut self, plan: &[u8])
-        ensures each { EachCut (queued_meaning self.old ∷ []) (queued_meaning self.new ∷ []) }
-        ensures exact { QueuedCuts self.old plan.now self.new }
+    // Leaves in the bytes of every sector what the plan says, sector by sector.
+    fn choose_by_sector(&mut self, plan: &[u8])
+        ensures bytes { (t : ℕ) → content self.new.sectors.bytes.now t ≡ cut_content plan.now self.old.sectors.bytes.now (waiting self.old) t }
+        ensures long { length self.new.sectors.bytes.now ≡ length self.old.sectors.bytes.now }
+        ensures stays { Stays self.old self.new }
     {
         // Plan, queue and bytes are all asked by the sector's number, so a loop over the numbers is plainest.
         for sector in 0..self.size() {
@@ -76,6 +77,38 @@ impl<'a> QueuedImage<'a> {
             if let Some(content) = self.queue.left(sector, choice) {
                 self.sectors.store(sector, content);
             }
+        }
+    }
+
+    // The same write by write: only a sector that a write waits for can change. The oldest of its writes stands for it, so that it is
+    // stored once.
+    fn choose_by_write(&mut self, plan: &[u8])
+        ensures bytes { (t : ℕ) → content self.new.sectors.bytes.now t ≡ cut_content plan.now self.old.sectors.bytes.now (waiting self.old) t }
+        ensures long { length self.new.sectors.bytes.now ≡ length self.old.sectors.bytes.now }
+        ensures stays { Stays self.old self.new }
+    {
+        let size = self.size();
+        for (place, write) in self.queue.iter().enumerate() {
+            let sector = write.sector;
+            let choice = plan.get(sector as usize).copied().unwrap_or(0);
+            if choice == 0 || sector >= size || self.queue.waits_before(place, sector) {
+                continue;
+            }
+            let content = self.queue.chosen(sector, choice as usize - 1);
+            self.sectors.store(sector, content);
+        }
+    }
+
+    // Leaves of every sector what the plan says, and lets go of the waiting writes.
+    fn leave_chosen(&mut self, plan: &[u8])
+        ensures each { EachCut (queued_meaning self.old ∷ []) (queued_meaning self.new ∷ []) }
+        ensures exact { QueuedCuts self.old plan.now self.new }
+    {
+        // An image of few sectors is gone through by sectors; a larger one by writes, so that what it costs does not grow with the image.
+        if (self.size() as usize) < self.queue.len() / 2 {
+            self.choose_by_sector(plan);
+        } else {
+            self.choose_by_write(plan);
         }
         self.queue.clear();
     }
@@ -119,7 +152,7 @@ impl<'a> Device for QueuedImage<'a> {
         // A refused read leaves the buffer as it was.
         self.sectors.ready(Layer::QueuedImage, sector)?;
         match self.queue.newest(sector) {
-            Some(content) => *buffer = *content,
+            Some(content) => buffer.copy_from_slice(content),
             None => self.sectors.load(sector, buffer),
         }
         Ok(())

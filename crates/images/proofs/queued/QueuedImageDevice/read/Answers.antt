@@ -11,9 +11,9 @@ returns-in-Some c =
     let p = c.args.self.now.sectors in
     let queue = waiting c.args.self.now in
     let r = ready_is queued_number p.bytes.now p.sick c.args.sector (sym c.in_ok-ready.ensures) in
-    let e = c.in-Some.ensures (content p.bytes.now c.args.sector) ∙ sym (ap newest (ready_listed queued_number p.bytes.now p.sick queue c.args.sector r)) in
+    let e = c.copy_from_slice.ensures.after ∙ c.in-Some.ensures (content p.bytes.now c.args.sector) ∙ sym (ap newest (ready_listed queued_number p.bytes.now p.sick queue c.args.sector r)) in
     record {
-      meets = ready_reads queued_number p.bytes.now p.sick queue c.args.sector c.args.buffer.now c.in-Some.content.now r e;
+      meets = ready_reads queued_number p.bytes.now p.sick queue c.args.sector c.args.buffer.now c.copy_from_slice.new.self r e;
       exact = record { answer = sym (ap answer_of (ready_stands queued_number p.bytes.now p.sick queue c.args.sector r)); buffer = e; same = refl };
     }
 

@@ -2,7 +2,7 @@ use Rattle.std.proofs.Common.{◌≡◌, ℕ, cond, ltb, length}
 use Rattle.images.specs.Sectors.{content}
 use Rattle.images.specs.Queue.{left_at}
 use Rattle.images.specs.Queued.{waiting, Stays}
-use Rattle.images.proofs.queued.QueuedImage.leave_chosen.Given as goal
+use Rattle.images.proofs.queued.QueuedImage.choose_by_sector.Given as goal
 
 abbrev pub invariant-loop-sector : goal.invariant-loop-sector
 invariant-loop-sector l = record {
