@@ -1,12 +1,12 @@
 -- Two bytes and the sample that they say: the lemmas that the sample's laws cite.
-use Rattle.std.specs.Prelude.{◌≡◌, ℕ, ◌+◌, ◌*◌, ◌/◌, ◌%◌, ◌<◌, true, List, [], ◌∷◌, slice_index, ℤ}
+use Rattle.std.specs.Prelude.{◌≡◌, ℕ, ◌+◌, ◌*◌, ◌<◌, true, List, slice_index, ℤ}
 use Rattle.std.proofs.Common.{◌∙◌, ap, rules, arith, of_z, to_z}
 use Rattle.std.specs.Int.{w16}
 use Rattle.std.proofs.lemmas.Int.{of_z-to_z}
 use Rattle.std.proofs.lemmas.Nat.{le_bytes_2}
 use Rattle.std.proofs.lemmas.Bool.Decides.{nat_tests}
 use Rattle.little_endian.specs.Little.{Bytes, le16}
-use Rattle.little_endian.proofs.Little.{bytes_none, bytes_cons}
+use Rattle.little_endian.proofs.Little.{bytes_le16}
 use Rattle.element.specs.declared.kind.Kind.TheVariants.{Sound}
 use Rattle.element.specs.Kinds.{bytes_lawful}
 use Rattle.element.specs.Sounds.{sample_lawful, sample_bytes, sample_of}
@@ -28,7 +28,7 @@ only bs h e =
 
 -- a number as two bytes is bytes
 pub small_two : (n : ℕ) → Bytes (le16 n)
-small_two n = bytes_cons (n % 256) ((n / 256 % 256) ∷ []) (omega arith) (bytes_cons (n / 256 % 256) [] (omega arith) bytes_none)
+small_two = bytes_le16
 
 -- a sample's bytes are bytes
 pub small : (x : ℤ) → sample_lawful x ≡ true → Bytes (sample_bytes x)

@@ -1,9 +1,9 @@
 -- Eight bytes and the mark that they say: the lemmas that the mark's laws cite.
-use Rattle.std.specs.Prelude.{◌≡◌, ℕ, ◌/◌, ◌%◌, ◌<◌, true, List, [], ◌∷◌, ◌++◌}
+use Rattle.std.specs.Prelude.{◌≡◌, ℕ, ◌<◌, true, List, [], ◌∷◌, ◌++◌}
 use Rattle.std.proofs.Common.{rules, sym, arith}
 use Rattle.std.proofs.lemmas.Slice.Eq.{text_from_reads}
 use Rattle.little_endian.specs.Little.{Bytes, le16, le32}
-use Rattle.little_endian.proofs.Little.{bytes_none, bytes_cons}
+use Rattle.little_endian.proofs.Little.{bytes_none, bytes_cons, bytes_append, bytes_le16, bytes_le32}
 use Rattle.element.specs.declared.mark.Mark.{Mark}
 use Rattle.element.specs.declared.kind.Kind.TheVariants.{Mark as MarkKind}
 use Rattle.element.specs.Kinds.{bytes_lawful}
@@ -21,18 +21,8 @@ only bs h e = (search rules, sym (text_from_reads bs (mark_bytes (mark_of bs)) (
 event_fits : (x : Mark) → mark_lawful x ≡ true → x.event < 256
 event_fits x h = search rules
 
--- a number as two bytes, and as four, ahead of bytes
-two_ahead : (n : ℕ) (bs : List ℕ) → Bytes bs → Bytes (le16 n ++ bs)
-two_ahead n bs h = bytes_cons (n % 256) ((n / 256 % 256) ∷ bs) (omega arith) (bytes_cons (n / 256 % 256) bs (omega arith) h)
-
-four_ahead : (n : ℕ) (bs : List ℕ) → Bytes bs → Bytes (le32 n ++ bs)
-four_ahead n bs h =
-    bytes_cons (n % 256) ((n / 256 % 256) ∷ (n / 65536 % 256) ∷ (n / 16777216 % 256) ∷ bs) (omega arith)
-    (bytes_cons (n / 256 % 256) ((n / 65536 % 256) ∷ (n / 16777216 % 256) ∷ bs) (omega arith)
-    (bytes_cons (n / 65536 % 256) ((n / 16777216 % 256) ∷ bs) (omega arith) (bytes_cons (n / 16777216 % 256) bs (omega arith) h)))
-
 -- a lawful mark's bytes are bytes
 pub small : (x : Mark) → mark_lawful x ≡ true → Bytes (mark_bytes x)
 small x h =
     let last : Bytes (x.event ∷ 0 ∷ []) = bytes_cons x.event (0 ∷ []) (event_fits x h) (bytes_cons 0 [] (omega arith) bytes_none) in
-    four_ahead x.tick (le16 x.point ++ (x.event ∷ 0 ∷ [])) (two_ahead x.point (x.event ∷ 0 ∷ []) last)
+    bytes_append (le32 x.tick) (le16 x.point ++ (x.event ∷ 0 ∷ [])) (bytes_le32 x.tick) (bytes_append (le16 x.point) (x.event ∷ 0 ∷ []) (bytes_le16 x.point) last)

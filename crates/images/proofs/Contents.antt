@@ -5,8 +5,8 @@ use borrow.Author.Tests.{eqb-false}
 use Rattle.std.proofs.lemmas.Slice.{between_is, take-put_mid_below, drop-put_mid}
 use Rattle.device.specs.declared.fault.Fault.{Fault}
 use Rattle.device.specs.Faults.{Answer, out_of_range, sick_at}
-use Rattle.device.specs.Meaning.{newest}
-use Rattle.device.specs.Calls.{Reads, standing, sick_fault}
+use Rattle.device.specs.Meaning.{Meaning, newest}
+use Rattle.device.specs.Calls.{Reads, answer_of, standing, sick_fault}
 use Rattle.device.proofs.Lists.{kept_refl}
 use Rattle.device.proofs.Steps.{reads_went}
 use Rattle.images.specs.declared.queue.WaitingWrite.{WaitingWrite}
@@ -81,6 +81,20 @@ none_stands false bad f g x xs e h = absurd (cc)
 pub ready_stands : (layer : ℕ) (bytes : List ℕ) (sick_ones : List (Option ℕ)) (queue : List WaitingWrite) (s : ℕ) → Ready bytes sick_ones s → standing layer (image_meaning layer sick_ones bytes queue) s ≡ None
 ready_stands layer bytes sick_ones queue s r = none_stands (ltb s (whole bytes)) (is_sick sick_ones s) (sick_at layer s) (out_of_range layer s) (content bytes s) (waiting_for s queue) r.inside r.well
 
+refusal_at : (inside bad : Bool) (f g : Fault) (x : List ℕ) (xs : List (List ℕ))
+    → ◌≡◌ {A = Answer} (cond inside (cond bad (Err f) (Ok tt)) (Err g)) (answer_of (cond inside (sick_fault (sector_of inside bad f x xs)) (Some g)))
+refusal_at false bad f g x xs = refl
+refusal_at true true f g x xs = refl
+refusal_at true false f g x xs = sym (ap answer_of (listed_well x xs))
+
+-- of an image only range and sickness stand in the way
+pub refusal_stands : (layer : ℕ) (sick_ones : List (Option ℕ)) (bytes : List ℕ) (queue : List WaitingWrite) (s : ℕ) → ready layer (whole bytes) sick_ones s ≡ answer_of (standing layer (image_meaning layer sick_ones bytes queue) s)
+refusal_stands layer sick_ones bytes queue s = refusal_at (ltb s (whole bytes)) (is_sick sick_ones s) (sick_at layer s) (out_of_range layer s) (content bytes s) (waiting_for s queue)
+
+-- where nothing stands in the way, the sector is ready
+pub stands_well : (layer : ℕ) (sick_ones : List (Option ℕ)) (bytes : List ℕ) (queue : List WaitingWrite) (s : ℕ) → standing layer (image_meaning layer sick_ones bytes queue) s ≡ None → Ready bytes sick_ones s
+stands_well layer sick_ones bytes queue s e = ready_is layer bytes sick_ones s (refusal_stands layer sick_ones bytes queue s ∙ ap answer_of e)
+
 listed_at : (inside bad : Bool) (f : Fault) (x : List ℕ) (xs : List (List ℕ)) → inside ≡ true → bad ≡ false → sector_of inside bad f x xs ≡ listed x xs
 listed_at true false f x xs e h = refl
 listed_at true true f x xs e h = absurd (cc)
@@ -90,10 +104,13 @@ listed_at false bad f x xs e h = absurd (cc)
 pub ready_listed : (layer : ℕ) (bytes : List ℕ) (sick_ones : List (Option ℕ)) (queue : List WaitingWrite) (s : ℕ) → Ready bytes sick_ones s → image_sector layer sick_ones bytes queue s ≡ listed (content bytes s) (waiting_for s queue)
 ready_listed layer bytes sick_ones queue s r = listed_at (ltb s (whole bytes)) (is_sick sick_ones s) (sick_at layer s) (content bytes s) (waiting_for s queue) r.inside r.well
 
+-- a read that changes nothing
+pub reads_same : (layer s : ℕ) (m : Meaning) (buffer buffer' : List ℕ) → standing layer m s ≡ None → buffer' ≡ newest (m.sector s) → Reads layer m s buffer (Ok tt) m buffer'
+reads_same layer s m buffer buffer' e b = reads_went layer s m m buffer buffer' (Ok tt) e (record { size = refl; so = λ t. kept_refl (m.sector t) }) b
+
 -- a read of a ready sector that changes nothing
 pub ready_reads : (layer : ℕ) (bytes : List ℕ) (sick_ones : List (Option ℕ)) (queue : List WaitingWrite) (s : ℕ) (buffer buffer' : List ℕ) → Ready bytes sick_ones s
     → buffer' ≡ newest (image_sector layer sick_ones bytes queue s)
     → Reads layer (image_meaning layer sick_ones bytes queue) s buffer (Ok tt) (image_meaning layer sick_ones bytes queue) buffer'
 ready_reads layer bytes sick_ones queue s buffer buffer' r b =
-    let m = image_meaning layer sick_ones bytes queue in
-    reads_went layer s m m buffer buffer' (Ok tt) (ready_stands layer bytes sick_ones queue s r) (record { size = refl; so = λ t. kept_refl (m.sector t) }) b
+    reads_same layer s (image_meaning layer sick_ones bytes queue) buffer buffer' (ready_stands layer bytes sick_ones queue s r) b

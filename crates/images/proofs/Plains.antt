@@ -1,10 +1,12 @@
 -- What the calls of a plain image do to its lists.
-use Rattle.std.proofs.Common.{◌≡◌, ℕ, ◌+◌, ◌*◌, ◌<◌, ◌≤◌, Bool, true, false, cond, eqb, ltb, List, [], length, Ok, Option, sym, refl, ap, ◌∙◌, subst, arith, ltb-true, eqb-true}
+use Rattle.std.proofs.Common.{◌≡◌, ℕ, ◌+◌, ◌*◌, ◌<◌, ◌≤◌, Bool, true, false, cond, eqb, ltb, List, [], length, get_or, Ok, Option, sym, refl, ap, ◌∙◌, subst, arith, ltb-true, eqb-true}
+use mathlib.Core.Path.{fun_ext}
 use borrow.Author.Tests.{both_ways}
 use Rattle.device.specs.declared.fault.Fault.{Fault}
 use Rattle.device.specs.Faults.{sick_at}
 use Rattle.device.specs.Meaning.{Sector, held}
 use Rattle.device.specs.Calls.{Writes, Kept, written, added}
+use Rattle.device.specs.Cuts.{chosen, cut_by}
 use Rattle.device.proofs.Lists.{kept_refl}
 use Rattle.device.proofs.Steps.{writes_went}
 use Rattle.images.specs.Sectors.{whole, content, over, is_sick}
@@ -44,3 +46,14 @@ plain_writes layer sick_ones bytes bytes' b s n l e =
           (kept_replaced (eqb t s) b (content bytes t) (at t)
           (λ q. ready_listed layer bytes sick_ones [] t (subst (Ready bytes sick_ones) (sym (eqb-true t s q)) n)));
     })
+
+chosen_at : (k : ℕ) (inside bad : Bool) (f : Fault) (x : List ℕ) → sector_of inside bad f x [] ≡ chosen k (sector_of inside bad f x [])
+chosen_at k false bad f x = refl
+chosen_at k true true f x = refl
+chosen_at k true false f x = refl
+
+-- a cut changes nothing
+pub plain_cut : (layer : ℕ) (plan : List ℕ) (sick_ones : List (Option ℕ)) (bytes : List ℕ) → image_meaning layer sick_ones bytes [] ≡ cut_by plan (image_meaning layer sick_ones bytes [])
+plain_cut layer plan sick_ones bytes =
+    ap (λ (f : ℕ → Sector). record { size = whole bytes; power = Ok tt; sector = f })
+    (fun_ext (λ s. chosen_at (get_or plan s 0) (ltb s (whole bytes)) (is_sick sick_ones s) (sick_at layer s) (content bytes s)))

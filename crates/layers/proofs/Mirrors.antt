@@ -13,7 +13,7 @@ use Rattle.device.proofs.Lists.{kept_refl, worn_refl, kept_worn, settled_kept}
 use Rattle.device.proofs.Steps.{standing_is, by_none, by_some, flushes_went, flushed_went}
 use Rattle.layers.specs.declared.mirror.Mirror.{Mirror}
 use Rattle.layers.specs.Mirrored.{either, both_power, mirrored, mirror_layer}
-use Rattle.layers.specs.Sides.{lost_power, found_sick, either_answer, joined, mirror_stands, EitherFetched, BothWrote, BothFlushed, EachWrote}
+use Rattle.layers.specs.Sides.{lost_power, found_sick, either_answer, joined, mirror_stands, EitherFetched, BothWrote, BothFlushed, EachWrote, EachFlushed}
 use Rattle.layers.proofs.Eithers.{either_worn, either_kept, either_cut, either_settled, written_either, kept_sick, healthy_first, healthy_second, both_sick, newest_first, newest_second}
 
 -- power
@@ -423,6 +423,17 @@ flush_joined m n r k on did =
       first_answers did.0 did.1 x.0,
       λ t. ap (λ (v : Sector). either v (n.second.sector t)) (x.1 t) ∙ ap (either (settled (a.sector t))) (y.1 t) ∙ either_settled (a.sector t) (b.sector t),
     ))))
+
+-- an accepted flush leaves each side only its newest contents
+pub flush_lists : (m n : Mirror Meaning Meaning) (r : Answer) → LawfulSides n → (mirrored m.first m.second).power ≡ Ok tt
+    → BothFlushed (λ a. a) (λ b. b) Flushes Flushes m r n → EachFlushed m r n
+flush_lists m n r k on did =
+    let a = m.first in
+    let b = m.second in
+    let were = both_were_on a.power b.power (ap power_fault on) in
+    subst (λ (v : Answer). EachFlushed m v n) (sym did.3)
+    (joined_by (λ v. EachFlushed m v n) (flushed_side a n.first did.0 k.0 were.0 did.2.0) (flushed_side b n.second did.1 k.1 were.1 did.2.1)
+    (λ x y. if_ok (either_answer did.0 did.1) (x.1, y.1)) (λ g e l. tt))
 
 -- cut
 

@@ -1,5 +1,12 @@
--- Parts of a list, spelled out element by element.
-use Rattle.std.proofs.Common.{◌≡◌, ℕ, zero, suc, ◌+◌, ◌≤◌, List, [], ◌∷◌, length, get_or, take, drop, sym, refl, ap, ◌∙◌, arith, drop-cons}
+-- Parts of a list: written one after the other from the front on, and spelled out element by element.
+use Rattle.std.proofs.Common.{◌≡◌, ℕ, zero, suc, ◌+◌, ◌≤◌, List, [], ◌∷◌, ◌++◌, length, get_or, take, drop, sym, refl, ap, ◌∙◌, ap₂, append_assoc, arith, drop-cons}
+use borrow.Rule.Slice.PartMut.{put_mid}
+use Rattle.std.proofs.lemmas.List.{take_at, drop_at}
+
+-- a part is written where what was written before it ends
+pub put_next : {X : Type 0} (front rest ys : List X) (a k : ℕ) → length front ≡ a → put_mid a k (front ++ rest) ys ≡ (front ++ ys) ++ drop k rest
+put_next front rest ys a k e =
+    ap₂ (λ x y. x ++ (ys ++ drop k y)) (take_at front rest a e) (drop_at front rest a e) ∙ sym (append_assoc front ys (drop k rest))
 
 -- n elements from place i on
 abbrev pub spelled : ℕ → ℕ → List ℕ → List ℕ

@@ -43,3 +43,9 @@ pub steps_add : (j k c : ℕ) → steps (j + k) c ≡ steps k (steps j c)
 unfolding steps
 steps_add zero k c = ap (λ (n : ℕ). steps n c) (zero-add k)
 steps_add (suc j) k c = ap (λ (n : ℕ). steps n c) (suc-add j k) ∙ steps_add j k (step c)
+
+-- zeros leave zeros
+pub steps_zero : (k : ℕ) → steps k 0 ≡ 0
+unfolding step steps
+steps_zero zero = refl
+steps_zero (suc k) = steps_zero k

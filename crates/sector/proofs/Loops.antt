@@ -60,6 +60,10 @@ word_more xss back i d c e w r h long hc step inv =
     ∙ ap (register c) (sym (append_assoc (get_or xss i d) rest back))
     ∙ sym (at_drop_more (λ ys. register c (flat ys ++ back)) xss i d h) ∙ inv
 
+-- the words are all taken in
+pub word_all : (xss : List (List ℕ)) (back : List ℕ) (i c r : ℕ) → length xss ≤ i → register c (flat (drop i xss) ++ back) ≡ r → register c back ≡ r
+word_all xss back i c r h inv = sym (at_drop_all (λ ys. register c (flat ys ++ back)) xss i h) ∙ inv
+
 -- whole words are all the bytes
 pub whole : (xs : List ℕ) (front : List (List ℕ)) → length xs % 8 ≡ 0 → front ≡ first_chunks 8 (length xs / 8) xs → flat front ≡ xs
 whole xs front m ef =

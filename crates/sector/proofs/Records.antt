@@ -183,14 +183,14 @@ known_put f rest t e =
     subst IsKindNumber (sym (ap (λ (x : List ℕ). get_or x 0 0) e) ∙ get_or-take 508 t 0 0 (omega arith)) (kind_known f.kind)
 
 -- the first byte is no kind's number
-no_kind : (s : List ℕ) → (IsKindNumber (get_or s 0 0) → ⊥) → NoRecord s
+pub no_kind : (s : List ℕ) → (IsKindNumber (get_or s 0 0) → ⊥) → NoRecord s
 no_kind s h = (
   λ sound. h (sound.low, sound.high),
   λ f p fits e. h (subst IsKindNumber (sym (ap (λ (x : List ℕ). get_or x 0 0) e ∙ first_byte f p)) (kind_known f.kind)),
 )
 
 -- the last four bytes are not the check
-not_sealed : (s : List ℕ) → (s ≡ sealed (take 508 s) → ⊥) → NoRecord s
+pub not_sealed : (s : List ℕ) → (s ≡ sealed (take 508 s) → ⊥) → NoRecord s
 not_sealed s h = (λ sound. h sound.checked, λ f p fits e. h (e ∙ ap sealed (sym (body_is s f p fits e))))
 
 -- the test of the check

@@ -19,7 +19,7 @@ module _ (file : List ℕ) (rate : ℕ) (samples : List ℕ) (ex : Exported file
       ap length ex.laid ∙ length-append (header_bytes rate (sample_count samples)) samples
       ∙ ap (λ n. n + length samples) (header_length rate (sample_count samples))
 
-  front_is : take 44 file ≡ header_bytes rate (sample_count samples)
+  pub front_is : take 44 file ≡ header_bytes rate (sample_count samples)
   front_is =
       ap (take 44) ex.laid
       ∙ take_at (header_bytes rate (sample_count samples)) samples 44 (header_length rate (sample_count samples))
